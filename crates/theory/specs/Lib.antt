@@ -1,0 +1,2 @@
+-- The words that the statements of Results need beside the model's.
+pub mod Orders
