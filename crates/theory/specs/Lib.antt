@@ -1,2 +1,3 @@
 -- The words that the statements of Results need beside the model's.
 pub mod Orders
+pub mod Weaker
