@@ -1,0 +1,56 @@
+-- A finish is the first instant, at or after the arrival, at which the job has had its time.
+--   finish-le      == a job that has had its time by t finishes by t
+--   finish-done    == at its finish it has arrived and has had its time
+--   finish-before  == before its finish it has not
+-- Assumes nothing.
+use Prim.Native.Nat.{ℕ, zero, suc, _+_, _-_, _≤_, _<_}
+use mathlib.Core.Path.{_≡_, refl, sym, _∙_, ap, subst}
+use mathlib.Core.Bool.{Bool, true, false, _&&_}
+use mathlib.Core.List.{List}
+use native.Mathlib.Omega.{arith}
+use lib.Dec.{eqb, leb, ltb}
+use borrow.Author.Tests.{eqb-true, eqb-false, eq-eqb, ne-eqb, le-leb, leb-true}
+use Rattle.model.specs.Lists.{least}
+use Rattle.model.specs.Sets.{Policy}
+use Rattle.model.specs.Runs.{time, hadAt, doneAt, finishOf}
+use Rattle.theory.proofs.Bools.{tests, split, clash, and-l, and-r, and-i}
+use Rattle.theory.proofs.Lists.{least-before, least-passes, least-bound}
+use Rattle.theory.proofs.Places.{Placed}
+use Rattle.theory.proofs.Runs as Run
+
+module _ (p : Policy) (c : List ℕ) (room : Placed p) (n j : ℕ) (a : p .part j ≡ true) where
+  pub finish-le : (t : ℕ) → t ≤ n → p .arrival j ≤ t → time c j ≤ hadAt p c t j → finishOf p c n j ≤ t
+  unfolding finishOf
+  finish-le t q r h =
+      least-bound (λ u. leb (p .arrival j) u && doneAt p c u j) (suc n) t (omega arith)
+      (and-i (le-leb (p .arrival j) t r)
+      (Run.done-is p c room t j a ∙ eq-eqb (hadAt p c t j) (time c j) (omega (arith, Run.had-le p c room t j a))))
+
+  pub finish-done : finishOf p c n j ≤ n → (p .arrival j ≤ finishOf p c n j) × (hadAt p c (finishOf p c n j) j ≡ time c j)
+  unfolding finishOf
+  finish-done q =
+      let f : ℕ = finishOf p c n j in
+      let h : (leb (p .arrival j) f && doneAt p c f j) ≡ true =
+      least-passes (λ u. leb (p .arrival j) u && doneAt p c u j) (suc n) (omega arith) in (
+        leb-true (p .arrival j) f (and-l (leb (p .arrival j) f) (doneAt p c f j) h),
+        eqb-true (hadAt p c f j) (time c j) (sym (Run.done-is p c room f j a) ∙ and-r (leb (p .arrival j) f) (doneAt p c f j) h),
+      )
+
+  pub finish-before : (t : ℕ) → t < finishOf p c n j → 1 ≤ time c j → hadAt p c t j < time c j
+  unfolding finishOf
+  finish-before t q one =
+      split (leb (p .arrival j) t)
+      (λ r.
+      split (eqb (hadAt p c t j) (time c j))
+      (λ e.
+      clash (and-i r (Run.done-is p c room t j a ∙ e))
+      (least-before (λ u. leb (p .arrival j) u && doneAt p c u j) (suc n) t q))
+      (λ e.
+      let ne : hadAt p c t j ≡ time c j → ⊥ = eqb-false (hadAt p c t j) (time c j) e in
+      omega (arith, ne, Run.had-le p c room t j a)))
+      (λ r. omega (tests, r, one, Run.had-early p c room t j (room j a .0) (omega (tests, r))))
+
+  -- past n there is no finish
+  pub finish-none : (t : ℕ) → 1 ≤ time c j → t ≤ n → hadAt p c t j ≡ time c j → finishOf p c n j ≤ t
+  finish-none t one q h =
+      split (leb (finishOf p c n j) t) (λ r. omega (tests, r)) (λ r. absurd (omega (tests, r, finish-before t (omega (tests, r)) one)))
