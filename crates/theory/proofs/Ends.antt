@@ -3,6 +3,7 @@
 --   within v c     == every time is at most the job's largest budget
 --   Kept t j       == job j is not dropped at instant t: the mode is LO, or it is a HI job
 --   named, no-idle == a kept job stands in the present order; while one is ready, no slot is idle
+--   Bounded v      == no job's largest budget is above its HI budget; so it is in a sound set (limit-hi)
 --   by-span        == from the span on, a kept job has had its time
 -- Assumes nothing.
 use Prim.Native.Nat.{ℕ, zero, suc, _+_, _-_, _≤_, _<_}
@@ -72,41 +73,45 @@ module _ (p : Policy) (o : Ordered p) where
         (omega (arith, Run.had-slot p c (o .room) t k one refl))
         (λ j m. Run.had-more p c (o .room) t j (o .room j (members-e p j m) .0) .0)
 
-module _ (v : View) (s : Sound v) (c : List ℕ) (w : within v c) where
-  from-last : (u j : ℕ) → v .policy .part j ≡ true → Kept (v .policy) (s .ordered) c u j → hadAt (v .policy) c u j < time c j
+-- what is needed of the budgets: no job's largest budget is above its HI budget
+abbrev pub Bounded : View → Type 0
+Bounded v = (j : ℕ) → v .policy .part j ≡ true → limit v j ≤ v .hi j
+
+module _ (v : View) (o : Ordered (v .policy)) (b : Bounded v) (c : List ℕ) (w : within v c) where
+  from-last : (u j : ℕ) → v .policy .part j ≡ true → Kept (v .policy) o c u j → hadAt (v .policy) c u j < time c j
       → (n : ℕ) → largest (v .policy .arrival) (members (v .policy)) + n ≤ u
       → n ≤ total (hadAt (v .policy) c (largest (v .policy .arrival) (members (v .policy)) + n)) (members (v .policy))
   from-last u j a k h zero q = omega arith
   from-last u j a k h (suc n) q =
-      let q₀ = v .policy in
-      let last : ℕ = largest (q₀ .arrival) (members q₀) in
+      let p = v .policy in
+      let last : ℕ = largest (p .arrival) (members p) in
       let t : ℕ = last + n in
       let e : suc t ≡ last + suc n = omega arith in
-      let idle : slotAt q₀ c t ≡ 0 → ⊥ =
-      no-idle q₀ (s .ordered) c t j a (kept-earlier q₀ (s .ordered) c t u j (omega arith) k)
-      (omega (arith, largest-le (q₀ .arrival) (members q₀) j (members-i q₀ j (s .ordered .room) a)))
-      (omega (arith, Run.had-later q₀ c (s .ordered .room) t u j (s .ordered .room j a .0) (omega arith))) in
-      subst (λ i. suc n ≤ total (hadAt q₀ c i) (members q₀)) e
-      (omega (arith, from-last u j a k h n (omega arith), busy q₀ (s .ordered) c t idle))
+      let idle : slotAt p c t ≡ 0 → ⊥ =
+      no-idle p o c t j a (kept-earlier p o c t u j (omega arith) k)
+      (omega (arith, largest-le (p .arrival) (members p) j (members-i p j (o .room) a)))
+      (omega (arith, Run.had-later p c (o .room) t u j (o .room j a .0) (omega arith))) in
+      subst (λ i. suc n ≤ total (hadAt p c i) (members p)) e
+      (omega (arith, from-last u j a k h n (omega arith), busy p o c t idle))
 
-  pub by-span : (u j : ℕ) → v .policy .part j ≡ true → Kept (v .policy) (s .ordered) c u j → span v ≤ u → hadAt (v .policy) c u j ≡ time c j
+  pub by-span : (u j : ℕ) → v .policy .part j ≡ true → Kept (v .policy) o c u j → span v ≤ u → hadAt (v .policy) c u j ≡ time c j
   unfolding span
   by-span u j a k q =
-      let q₀ = v .policy in
-      let r = s .ordered .room in
-      let last : ℕ = largest (q₀ .arrival) (members q₀) in
-      let n : ℕ = total (v .hi) (members q₀) in
-      split (ltb (hadAt q₀ c u j) (time c j))
+      let p = v .policy in
+      let r = o .room in
+      let last : ℕ = largest (p .arrival) (members p) in
+      let n : ℕ = total (v .hi) (members p) in
+      split (ltb (hadAt p c u j) (time c j))
       (λ h.
-      let hu : hadAt q₀ c u j < time c j = omega (tests, h) in
-      let hs : hadAt q₀ c (last + n) j ≤ hadAt q₀ c u j = Run.had-later q₀ c r (last + n) u j (r j a .0) q in
+      let hu : hadAt p c u j < time c j = omega (tests, h) in
+      let hs : hadAt p c (last + n) j ≤ hadAt p c u j = Run.had-later p c r (last + n) u j (r j a .0) q in
       absurd
       (omega (
         arith,
         from-last u j a k hu n q,
-        total-lt (hadAt q₀ c (last + n)) (v .hi) (members q₀) j (members-i q₀ j r a) (omega (arith, hs, hu, w j a, limit-hi v s j a))
+        total-lt (hadAt p c (last + n)) (v .hi) (members p) j (members-i p j r a) (omega (arith, hs, hu, w j a, b j a))
             (λ i m.
-            let b = members-e q₀ i m in
-            omega (arith, Run.had-le q₀ c r (last + n) i b, w i b, limit-hi v s i b)),
+            let d = members-e p i m in
+            omega (arith, Run.had-le p c r (last + n) i d, w i d, b i d)),
       )))
-      (λ h. omega (tests, h, Run.had-le q₀ c r u j a))
+      (λ h. omega (tests, h, Run.had-le p c r u j a))

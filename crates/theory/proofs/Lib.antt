@@ -13,3 +13,7 @@ pub mod Finishes
 pub mod PhaseOne
 pub mod Scenarios
 pub mod PhaseTwo
+pub mod Dominance
+pub mod Outcomes
+pub mod Verdicts
+pub mod Fitness

@@ -25,7 +25,7 @@ use Rattle.theory.proofs.Sums.{at-numbers}
 use Rattle.theory.proofs.Places.{is-lo}
 use Rattle.theory.proofs.Runs as Run
 use Rattle.theory.proofs.Sound.{Ordered, Sound}
-use Rattle.theory.proofs.Ends.{within, by-span}
+use Rattle.theory.proofs.Ends.{within, limit-hi, by-span}
 use Rattle.theory.proofs.Finishes.{finish-done, finish-before, finish-none}
 
 pub place-time : (v : View) (f : ℕ → ℕ) (j : ℕ) → Ordered (v .policy) → v .policy .part j ≡ true → time (places v f) j ≡ f j
@@ -65,7 +65,7 @@ module _ (v : View) (s : Sound v) where
   lo-stays t = lo-always (v .policy) (s .ordered) (loTimes v) (λ j a k. omega (arith, lo-time j a)) t
 
   pub lo-ends : (t j : ℕ) → v .policy .part j ≡ true → span v ≤ t → hadAt (v .policy) (loTimes v) t j ≡ v .policy .lo j
-  lo-ends t j a q = by-span v s (loTimes v) lo-within t j a (inl (lo-stays t)) q ∙ lo-time j a
+  lo-ends t j a q = by-span v (s .ordered) (limit-hi v s) (loTimes v) lo-within t j a (inl (lo-stays t)) q ∙ lo-time j a
 
   module _ (J : ℕ) (a : v .policy .part J ≡ true) (k : critical (v .policy) J ≡ true) where
     one-lo : 1 ≤ time (loTimes v) J

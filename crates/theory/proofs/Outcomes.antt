@@ -1,0 +1,147 @@
+-- The switch of a run and what became of its jobs. A run c of v, each time from 1 to the job's largest budget.
+--   Run v c        == such times
+--   switches       == the run never switches, and its mode is LO at every instant; or it switches at τ, before the span
+--   over           == whether some HI job's time is above its LO budget, which is whether the run switches
+--   required-kept  == a job whose deadline is required is never dropped
+--   ends           == so it finishes by the span, and not at 0
+--   met            == it is in time exactly when its finish is
+-- Assumes nothing.
+use Prim.Native.Nat.{ℕ, zero, suc, _+_, _-_, _≤_, _<_}
+use mathlib.Core.Path.{_≡_, refl, sym, _∙_, ap, subst}
+use mathlib.Core.Bool.{Bool, true, false, cond, not, _&&_, _||_}
+use mathlib.Core.List.{List}
+use mathlib.Core.Logic.{_⊎_, inl, inr, ⊎-elim, _↔_}
+use native.Mathlib.Omega.{arith}
+use lib.Dec.{eqb, leb, ltb}
+use borrow.Author.Tests.{eqb-true, eqb-false, eq-eqb, ne-eqb, le-ltb, lt-ltb, not-true}
+use Rattle.model.specs.declared.Switch.{Switch}
+use Rattle.model.specs.declared.Switch.the-variants.{Never, At}
+use Rattle.model.specs.Lists.{any, least}
+use Rattle.model.specs.Sets.{Policy, View, isHi, members, critical, span}
+use Rattle.model.specs.Runs.{time, modeAt, hadAt, doneAt, finishOf, switchOf, droppedBy, Outcome, finished, dropped, outcome, mark, requiredAfter, outcomeIn, switchIn, required, late, missed, meets, limit, isRun}
+use Rattle.theory.proofs.Bools.{tests, split, clash, not-i, and-i, and-l, and-r, and-no-l, and-no-r}
+use Rattle.theory.proofs.Lists.{any-none, any-no, least-le, least-before, least-passes, least-all}
+use Rattle.theory.proofs.Places.{members-i, members-e}
+use Rattle.theory.proofs.Runs as Run
+use Rattle.theory.proofs.Sound.{Ordered, Sound}
+use Rattle.theory.proofs.Ends.{within, Bounded, Kept, by-span}
+use Rattle.theory.proofs.Finishes.{finish-done, finish-before, finish-none}
+
+-- the times of a run, as facts
+abbrev pub Times : View → List ℕ → Type 0
+Times v c = (j : ℕ) → v .policy .part j ≡ true → (1 ≤ time c j) × (time c j ≤ limit v j)
+
+-- the run switches at τ: the mode is HI there, and not before
+abbrev pub Switches : View → List ℕ → ℕ → Type 0
+Switches v c τ =
+    (switchIn v c ≡ At τ) × (τ < span v) × (isHi (modeAt (v .policy) c τ) ≡ true)
+    × ((u : ℕ) → u < τ → isHi (modeAt (v .policy) c u) ≡ false)
+
+pub switch-cases : (v : View) (c : List ℕ)
+    → ((switchIn v c ≡ Never) × ((t : ℕ) → t < span v → isHi (modeAt (v .policy) c t) ≡ false)) ⊎ ((τ : ℕ) × Switches v c τ)
+unfolding switchIn switchOf
+switch-cases v c =
+    let test : ℕ → Bool = λ t. isHi (modeAt (v .policy) c t) in
+    let n : ℕ = span v in
+    let τ : ℕ = least test n in
+    split (eqb τ n)
+    (λ e.
+    inl (
+      rw e refl,
+      λ t q. least-before test n t (omega (tests, e, q)),
+    ))
+    (λ e.
+    let ne : τ ≡ n → ⊥ = eqb-false τ n e in
+    let lt : τ < n = omega (arith, ne, least-le test n) in
+    inr (τ, (rw e refl, lt, least-passes test n lt, λ u q. least-before test n u q)))
+
+module _ (v : View) (o : Ordered (v .policy)) (b : Bounded v) (c : List ℕ) (r : Times v c) where
+  in-limit : within v c
+  in-limit j a = r j a .1
+
+  -- a HI job is never unfinished at or after the span
+  no-overrun : (t j : ℕ) → span v ≤ t → Run.Overrun (v .policy) c (o .room) t j → ⊥
+  no-overrun t j q x = omega (arith, x .3, by-span v o b c in-limit t j (x .0) (inr (x .1)) q)
+
+  -- so the mode switches before the span or never
+  pub lo-for-good : ((t : ℕ) → t < span v → isHi (modeAt (v .policy) c t) ≡ false) → (t : ℕ) → isHi (modeAt (v .policy) c t) ≡ false
+  lo-for-good l zero =
+      split (isHi (modeAt (v .policy) c 0))
+      (λ h.
+      let (j, x) = Run.hi-from-start (v .policy) c (o .room) h in
+      split (leb (span v) 0) (λ q. absurd (no-overrun 0 j (omega (tests, q)) x)) (λ q. l 0 (omega (tests, q))))
+      (λ h. h)
+  lo-for-good l (suc t) =
+      split (isHi (modeAt (v .policy) c (suc t)))
+      (λ h.
+      split (leb (span v) (suc t))
+      (λ q.
+      ⊎-elim (λ m. clash m (lo-for-good l t)) (λ (j, x). absurd (no-overrun (suc t) j (omega (tests, q)) x))
+      (Run.hi-from (v .policy) c (o .room) t h))
+      (λ q. l (suc t) (omega (tests, q))))
+      (λ h. h)
+
+  pub switches : ((switchIn v c ≡ Never) × ((t : ℕ) → isHi (modeAt (v .policy) c t) ≡ false)) ⊎ ((τ : ℕ) × Switches v c τ)
+  switches = ⊎-elim (λ (e, l). inl (e, lo-for-good l)) (λ x. inr x) (switch-cases v c)
+
+  required-kept : (j : ℕ) → required v c j ≡ true → (droppedBy (v .policy) c j (switchIn v c) ≡ false) × Kept (v .policy) o c (span v) j
+  unfolding required requiredAfter droppedBy
+  required-kept j q =
+      ⊎-elim {C = (droppedBy (v .policy) c j (switchIn v c) ≡ false) × Kept (v .policy) o c (span v) j}
+      (λ (e, l). (rw e refl, inl (l (span v))))
+      (λ (τ, x).
+      let k : critical (v .policy) j ≡ true = subst (λ (z : Switch). requiredAfter (v .policy) j z ≡ true) (x .0) q in
+      (rw (x .0) (and-no-l (not (doneAt (v .policy) c τ j) || leb τ (v .policy .arrival j)) (ap not k)), inr k))
+      switches
+
+  -- the finish of a job whose deadline is required
+  module _ (j : ℕ) (a : v .policy .part j ≡ true) (q : required v c j ≡ true) where
+    pub ends-as : outcomeIn v c j ≡ finished (finishOf (v .policy) c (span v) j)
+    unfolding outcomeIn outcome switchIn
+    ends-as = rw (required-kept j q .0) refl
+
+    pub ends-had : hadAt (v .policy) c (span v) j ≡ time c j
+    ends-had = by-span v o b c in-limit (span v) j a (required-kept j q .1) (omega arith)
+
+    pub ends-span : finishOf (v .policy) c (span v) j ≤ span v
+    ends-span = finish-none (v .policy) c (o .room) (span v) j a (span v) (r j a .0) (omega arith) ends-had
+
+    pub ends-done : hadAt (v .policy) c (finishOf (v .policy) c (span v) j) j ≡ time c j
+    ends-done = finish-done (v .policy) c (o .room) (span v) j a ends-span .1
+
+    pub ends-by : (t : ℕ) → time c j ≤ hadAt (v .policy) c t j → finishOf (v .policy) c (span v) j ≤ t
+    ends-by t h =
+        split (leb t (span v))
+        (λ l.
+        finish-none (v .policy) c (o .room) (span v) j a t (r j a .0) (omega (tests, l))
+        (omega (arith, h, Run.had-le (v .policy) c (o .room) t j a)))
+        (λ l. omega (tests, l, ends-span))
+
+    pub in-time : (late v c j ≡ false) ↔ (finishOf (v .policy) c (span v) j ≤ v .deadline j)
+    unfolding late mark
+    in-time = (
+      λ h. omega (tests, subst (λ (x : Outcome). ltb (v .deadline j) (mark x) ≡ false) ends-as h),
+      λ h. rw ends-as (le-ltb (v .deadline j) (finishOf (v .policy) c (span v) j) h),
+    )
+
+  pub meets-e : meets v c ≡ true → (j : ℕ) → v .policy .part j ≡ true → required v c j ≡ true
+      → finishOf (v .policy) c (span v) j ≤ v .deadline j
+  unfolding meets missed
+  meets-e m j a q =
+      in-time j a q .0
+      (split (late v c j)
+      (λ l.
+      clash (and-i q l)
+      (any-no (missed v c) (members (v .policy)) j (not-true (any (missed v c) (members (v .policy))) m) (members-i (v .policy) j (o .room) a)))
+      (λ l. l))
+
+  pub meets-i : ((j : ℕ) → v .policy .part j ≡ true → required v c j ≡ true → finishOf (v .policy) c (span v) j ≤ v .deadline j)
+      → meets v c ≡ true
+  unfolding meets missed
+  meets-i h =
+      not-i
+      (any-none (missed v c) (members (v .policy))
+      (λ j m.
+      split (required v c j)
+      (λ q. and-no-r (required v c j) (in-time j (members-e (v .policy) j m) q .1 (h j (members-e (v .policy) j m) q)))
+      (λ q. and-no-l (late v c j) q)))
