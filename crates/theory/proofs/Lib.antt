@@ -17,3 +17,4 @@ pub mod Dominance
 pub mod Outcomes
 pub mod Verdicts
 pub mod Fitness
+pub mod Margins

@@ -1,10 +1,10 @@
 -- The switch of a run and what became of its jobs. A run c of v, each time from 1 to the job's largest budget.
---   Run v c        == such times
+--   Times v c      == such times
 --   switches       == the run never switches, and its mode is LO at every instant; or it switches at τ, before the span
---   over           == whether some HI job's time is above its LO budget, which is whether the run switches
+--   never-iff      == it never switches exactly if no HI job's time is above its LO budget
 --   required-kept  == a job whose deadline is required is never dropped
---   ends           == so it finishes by the span, and not at 0
---   met            == it is in time exactly when its finish is
+--   ends-..        == so it finishes, by the span
+--   meets-e, meets-i == the run meets what it requires exactly if each such finish is by the deadline
 -- Assumes nothing.
 use Prim.Native.Nat.{ℕ, zero, suc, _+_, _-_, _≤_, _<_}
 use mathlib.Core.Path.{_≡_, refl, sym, _∙_, ap, subst}
@@ -26,6 +26,7 @@ use Rattle.theory.proofs.Runs as Run
 use Rattle.theory.proofs.Sound.{Ordered, Sound}
 use Rattle.theory.proofs.Ends.{within, Bounded, Kept, by-span}
 use Rattle.theory.proofs.Finishes.{finish-done, finish-before, finish-none}
+use Rattle.theory.proofs.Scenarios.{lo-always}
 
 -- the times of a run, as facts
 abbrev pub Times : View → List ℕ → Type 0
@@ -54,6 +55,9 @@ switch-cases v c =
     let ne : τ ≡ n → ⊥ = eqb-false τ n e in
     let lt : τ < n = omega (arith, ne, least-le test n) in
     inr (τ, (rw e refl, lt, least-passes test n lt, λ u q. least-before test n u q)))
+
+never-at {ℓ} : {P : Type ℓ} (τ : ℕ) → Never ≡ At τ → P
+never-at τ e = absurd (let z : _≡_ {A = ℕ} 0 1 = cc in omega arith)
 
 module _ (v : View) (o : Ordered (v .policy)) (b : Bounded v) (c : List ℕ) (r : Times v c) where
   in-limit : within v c
@@ -109,6 +113,15 @@ module _ (v : View) (o : Ordered (v .policy)) (b : Bounded v) (c : List ℕ) (r 
     pub ends-done : hadAt (v .policy) c (finishOf (v .policy) c (span v) j) j ≡ time c j
     ends-done = finish-done (v .policy) c (o .room) (span v) j a ends-span .1
 
+    pub ends-pos : 1 ≤ finishOf (v .policy) c (span v) j
+    ends-pos =
+        let f : ℕ = finishOf (v .policy) c (span v) j in
+        split (eqb f 0)
+        (λ z.
+        let had : hadAt (v .policy) c 0 j ≡ time c j = subst (λ n. hadAt (v .policy) c n j ≡ time c j) (eqb-true f 0 z) ends-done in
+        absurd (omega (arith, had, r j a .0, Run.had-zero (v .policy) c j (o .room j a .0))))
+        (λ z. let nz : f ≡ 0 → ⊥ = eqb-false f 0 z in omega (arith, nz))
+
     pub ends-by : (t : ℕ) → time c j ≤ hadAt (v .policy) c t j → finishOf (v .policy) c (span v) j ≤ t
     ends-by t h =
         split (leb t (span v))
@@ -145,3 +158,19 @@ module _ (v : View) (o : Ordered (v .policy)) (b : Bounded v) (c : List ℕ) (r 
       split (required v c j)
       (λ q. and-no-r (required v c j) (in-time j (members-e (v .policy) j m) q .1 (h j (members-e (v .policy) j m) q)))
       (λ q. and-no-l (late v c j) q)))
+
+  -- the run never switches exactly if no HI job's time is above its LO budget
+  pub never-iff : (switchIn v c ≡ Never) ↔ ((j : ℕ) → v .policy .part j ≡ true → critical (v .policy) j ≡ true → time c j ≤ v .policy .lo j)
+  never-iff = (
+    λ e j a k.
+        ⊎-elim
+        (λ (x, lo).
+        omega (
+          arith,
+          Run.lo-most (v .policy) c (o .room) (span v) j (lo (span v)) a k,
+          by-span v o b c in-limit (span v) j a (inr k) (omega arith),
+        ))
+        (λ (τ, x). never-at τ (sym e ∙ x .0))
+        switches,
+    λ h. ⊎-elim (λ (e, lo). e) (λ (τ, x). clash (x .2) (lo-always (v .policy) o c h τ)) switches,
+  )

@@ -2,3 +2,4 @@
 pub mod Orders
 pub mod Weaker
 pub mod Misses
+pub mod Signs
