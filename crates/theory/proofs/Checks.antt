@@ -1,5 +1,4 @@
 -- What the checks of document 01 say of a set that passes them, and of a run that does.
---   members-distinct        == no job is a member twice
 --   hi-jobs-mem, hi-jobs-i  == the HI jobs are those of level HI that take part
 --   fault-none              == an order without a fault names only whom it may, and nobody twice
 --   Passes v                == each of checks 2 to 7 is good;  checks-pass: so it is where the refusal is good
@@ -25,25 +24,15 @@ use Rattle.model.specs.Sets.{Policy, View, view, orderOf, countOf, members, cri
 use Rattle.model.specs.Runs.{time, limit, inRange, isRun}
 use Rattle.model.specs.Scenarios.{hiJobs}
 use Rattle.model.specs.Refusals.{isGood, applies, placed, firstOf, lowest, faultFrom, fault, checkCount, timeWrong, checkTime, budgetWrong, checkBudget, checkSpan, checkLoOrder, isHiJob, checkHiOrder, checks, refusal}
-use Rattle.model.specs.Answers.{refusalOf}
 use Rattle.theory.specs.Orders.{distinct}
 use Rattle.theory.proofs.Bools.{tests, split, clash, not-i, not-i-false, and-l, and-r, and-i, or-no-l, or-no-r}
 use Rattle.theory.proofs.Lists.{any-no, any-none, mem-cases, not-mem-nil, only-i, only-e, first-none}
 use Rattle.theory.proofs.Sums.{from-mem, mem-from, from-distinct, only-distinct}
-use Rattle.theory.proofs.Places.{Placed, members-i, members-e}
+use Rattle.theory.proofs.Places.{Placed, members-i, members-e, members-nonzero}
 use Rattle.theory.proofs.Pigeonhole.{length-from, length-cut, pigeonhole}
 use Rattle.theory.proofs.Sound.{Sound}
 
 -- members and HI jobs ----------------------------------------------------------------------------------------------------------------
-
-pub members-distinct : (p : Policy) → distinct (members p) ≡ true
-unfolding members numbers
-members-distinct p = only-distinct (p .part) (from 1 64) (from-distinct 1 64)
-
-members-from-one : (p : Policy) → mem 0 (members p) ≡ false
-unfolding members numbers
-members-from-one p =
-    split (mem 0 (members p)) (λ m. absurd (omega (arith, mem-from 1 64 0 (only-e (p .part) (from 1 64) 0 m .0)))) (λ n. n)
 
 pub hi-jobs-mem : (v : View) (j : ℕ) → mem j (hiJobs v) ≡ true → (v .policy .part j ≡ true) × (critical (v .policy) j ≡ true)
 unfolding hiJobs
@@ -73,7 +62,7 @@ lowest-none : (n : ℕ) (v : View) (bad : ℕ → Bool) → isGood (lowest n v b
     → (j : ℕ) → v .policy .part j ≡ true → bad j ≡ false
 unfolding lowest
 lowest-none n v bad h s room j a =
-    first-none bad (members (v .policy)) j (members-from-one (v .policy)) (placed-not n (first bad (members (v .policy))) h s)
+    first-none bad (members (v .policy)) j (members-nonzero (v .policy)) (placed-not n (first bad (members (v .policy))) h s)
     (members-i (v .policy) j room a)
 
 fault-step : (ok : ℕ → Bool) (seen : List ℕ) (k x : ℕ) (l : List ℕ) → 1 ≤ k → faultFrom ok seen k (x ∷ l) ≡ 0
@@ -219,8 +208,7 @@ lo-names s g j a =
     number : (i : ℕ) → view s .policy .part i ≡ true → mem i (from 1 (view s .count)) ≡ true
     number i b = from-mem 1 (view s .count) i (part-is s i b .0) (omega (arith, part-is s i b))
 
-pub passes-sound : (s : Set) → isGood (refusalOf s) ≡ true → Sound (view s)
-unfolding refusalOf
+pub passes-sound : (s : Set) → isGood (refusal (view s)) ≡ true → Sound (view s)
 passes-sound s h =
     let v = view s in
     let g = checks-pass v h in

@@ -1,7 +1,7 @@
 -- A finish is the first instant, at or after the arrival, at which the job has had its time.
 --   finish-le      == a job that has had its time by t finishes by t
 --   finish-done    == at its finish it has arrived and has had its time
---   finish-before  == before its finish it has not
+--   finish-before  == before its finish it has not;  finish-pos, finish-none: a time from 1 up
 -- Assumes nothing.
 use Prim.Native.Nat.{ℕ, zero, suc, _+_, _-_, _≤_, _<_}
 use mathlib.Core.Path.{_≡_, refl, sym, _∙_, ap, subst}
@@ -50,7 +50,16 @@ module _ (p : Policy) (c : List ℕ) (room : Placed p) (n j : ℕ) (a : p .part 
       omega (arith, ne, Run.had-le p c room t j a)))
       (λ r. omega (tests, r, one, Run.had-early p c room t j (room j a .0) (omega (tests, r))))
 
-  -- past n there is no finish
+  pub finish-pos : 1 ≤ time c j → finishOf p c n j ≤ n → 1 ≤ finishOf p c n j
+  finish-pos one q =
+      let f : ℕ = finishOf p c n j in
+      split (eqb f 0)
+      (λ z.
+      let had : hadAt p c 0 j ≡ time c j = subst (λ t. hadAt p c t j ≡ time c j) (eqb-true f 0 z) (finish-done q .1) in
+      absurd (omega (arith, had, one, Run.had-zero p c j (room j a .0))))
+      (λ z. let nz : f ≡ 0 → ⊥ = eqb-false f 0 z in omega (arith, nz))
+
+  -- who has had its time of at least 1 by t has finished by t
   pub finish-none : (t : ℕ) → 1 ≤ time c j → t ≤ n → hadAt p c t j ≡ time c j → finishOf p c n j ≤ t
   finish-none t one q h =
       split (leb (finishOf p c n j) t) (λ r. omega (tests, r)) (λ r. absurd (omega (tests, r, finish-before t (omega (tests, r)) one)))

@@ -8,6 +8,11 @@ pub mod Places
 pub mod Runs
 pub mod Sound
 pub mod Checks
+pub mod Counting
+pub mod Embeddings
+pub mod Without
+pub mod Kept
+pub mod Passes
 pub mod Ends
 pub mod Finishes
 pub mod PhaseOne
@@ -18,3 +23,5 @@ pub mod Outcomes
 pub mod Verdicts
 pub mod Fitness
 pub mod Margins
+pub mod Views
+pub mod Results

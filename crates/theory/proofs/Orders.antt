@@ -99,7 +99,7 @@ first-not-zero test l i z m h e =
 
 -- embeddings of orders ---------------------------------------------------------------------------------------------------------------
 
-sub-cons : (x y : ℕ) (l m : List ℕ) → subsequence (x ∷ l) (y ∷ m) ≡ true
+pub sub-cons : (x y : ℕ) (l m : List ℕ) → subsequence (x ∷ l) (y ∷ m) ≡ true
     → ((x ≡ y) × (subsequence l m ≡ true)) ⊎ ((x ≡ y → ⊥) × (subsequence (x ∷ l) m ≡ true))
 unfolding subsequence
 sub-cons x y l m h =
@@ -125,11 +125,11 @@ map-mem e (x ∷ l) a m =
     (λ q. mem-tail (e a) (e x) (map e l) (map-mem e l a q))
     (mem-cases a x l m)
 
-head-out : (x : ℕ) (l : List ℕ) → distinct (x ∷ l) ≡ true → mem x l ≡ false
+pub head-out : (x : ℕ) (l : List ℕ) → distinct (x ∷ l) ≡ true → mem x l ≡ false
 unfolding distinct
 head-out x l d = not-true (mem x l) (and-l (not (mem x l)) (distinct l) d)
 
-tail-distinct : (x : ℕ) (l : List ℕ) → distinct (x ∷ l) ≡ true → distinct l ≡ true
+pub tail-distinct : (x : ℕ) (l : List ℕ) → distinct (x ∷ l) ≡ true → distinct l ≡ true
 unfolding distinct
 tail-distinct x l d = and-r (not (mem x l)) (distinct l) d
 

@@ -2,8 +2,8 @@
 --   Times v c      == such times
 --   switches       == the run never switches, and its mode is LO at every instant; or it switches at τ, before the span
 --   never-iff      == it never switches exactly if no HI job's time is above its LO budget
---   required-kept  == a job whose deadline is required is never dropped
---   ends-..        == so it finishes, by the span
+--   not-dropped    == a job whose deadline is required is not dropped;  kept-had: who is not dropped has had its time by the span
+--   ends-..        == the finish of a job whose deadline is required;  outcome-cases: a job is dropped or finishes by the span
 --   meets-e, meets-i == the run meets what it requires exactly if each such finish is by the deadline
 -- Assumes nothing.
 use Prim.Native.Nat.{ℕ, zero, suc, _+_, _-_, _≤_, _<_}
@@ -13,19 +13,19 @@ use mathlib.Core.List.{List}
 use mathlib.Core.Logic.{_⊎_, inl, inr, ⊎-elim, _↔_}
 use native.Mathlib.Omega.{arith}
 use lib.Dec.{eqb, leb, ltb}
-use borrow.Author.Tests.{eqb-true, eqb-false, eq-eqb, ne-eqb, le-ltb, lt-ltb, not-true}
+use borrow.Author.Tests.{eqb-true, eqb-false, le-ltb, not-true, not-false}
 use Rattle.model.specs.declared.Switch.{Switch}
 use Rattle.model.specs.declared.Switch.the-variants.{Never, At}
 use Rattle.model.specs.Lists.{any, least}
 use Rattle.model.specs.Sets.{Policy, View, isHi, members, critical, span}
 use Rattle.model.specs.Runs.{time, modeAt, hadAt, doneAt, finishOf, switchOf, droppedBy, Outcome, finished, dropped, outcome, mark, requiredAfter, outcomeIn, switchIn, required, late, missed, meets, limit, isRun}
-use Rattle.theory.proofs.Bools.{tests, split, clash, not-i, and-i, and-l, and-r, and-no-l, and-no-r}
+use Rattle.theory.proofs.Bools.{tests, split, clash, not-i, and-i, and-l, and-r, and-no-l, and-no-r, or-no-l}
 use Rattle.theory.proofs.Lists.{any-none, any-no, least-le, least-before, least-passes, least-all}
 use Rattle.theory.proofs.Places.{members-i, members-e}
 use Rattle.theory.proofs.Runs as Run
 use Rattle.theory.proofs.Sound.{Ordered, Sound}
 use Rattle.theory.proofs.Ends.{within, Bounded, Kept, by-span}
-use Rattle.theory.proofs.Finishes.{finish-done, finish-before, finish-none}
+use Rattle.theory.proofs.Finishes.{finish-done, finish-pos, finish-none}
 use Rattle.theory.proofs.Scenarios.{lo-always}
 
 -- the times of a run, as facts
@@ -88,24 +88,50 @@ module _ (v : View) (o : Ordered (v .policy)) (b : Bounded v) (c : List ℕ) (r 
   pub switches : ((switchIn v c ≡ Never) × ((t : ℕ) → isHi (modeAt (v .policy) c t) ≡ false)) ⊎ ((τ : ℕ) × Switches v c τ)
   switches = ⊎-elim (λ (e, l). inl (e, lo-for-good l)) (λ x. inr x) (switch-cases v c)
 
-  required-kept : (j : ℕ) → required v c j ≡ true → (droppedBy (v .policy) c j (switchIn v c) ≡ false) × Kept (v .policy) o c (span v) j
+  -- a job whose deadline is required is not dropped
+  not-dropped : (j : ℕ) → required v c j ≡ true → droppedBy (v .policy) c j (switchIn v c) ≡ false
   unfolding required requiredAfter droppedBy
-  required-kept j q =
-      ⊎-elim {C = (droppedBy (v .policy) c j (switchIn v c) ≡ false) × Kept (v .policy) o c (span v) j}
-      (λ (e, l). (rw e refl, inl (l (span v))))
+  not-dropped j q =
+      ⊎-elim {C = droppedBy (v .policy) c j (switchIn v c) ≡ false}
+      (λ (e, l). rw e refl)
       (λ (τ, x).
       let k : critical (v .policy) j ≡ true = subst (λ (z : Switch). requiredAfter (v .policy) j z ≡ true) (x .0) q in
-      (rw (x .0) (and-no-l (not (doneAt (v .policy) c τ j) || leb τ (v .policy .arrival j)) (ap not k)), inr k))
+      rw (x .0) (and-no-l (not (doneAt (v .policy) c τ j) || leb τ (v .policy .arrival j)) (ap not k)))
+      switches
+
+  -- and who is not dropped has had its time by the span: a LO job, where there is a switch, was done at it
+  kept-had : (j : ℕ) → v .policy .part j ≡ true → droppedBy (v .policy) c j (switchIn v c) ≡ false → hadAt (v .policy) c (span v) j ≡ time c j
+  unfolding droppedBy
+  kept-had j a d =
+      let p = v .policy in
+      let by : Kept p o c (span v) j → hadAt p c (span v) j ≡ time c j = λ k. by-span v o b c in-limit (span v) j a k (omega arith) in
+      ⊎-elim
+      (λ (e, lo). by (inl (lo (span v))))
+      (λ (τ, x).
+      split (critical p j)
+      (λ k. by (inr k))
+      (λ k.
+      let y : (not (doneAt p c τ j) || leb τ (p .arrival j)) ≡ false = rw (x .0, k) at d in
+      let done : doneAt p c τ j ≡ true =
+      not-false (doneAt p c τ j) (or-no-l (not (doneAt p c τ j)) (leb τ (p .arrival j)) y) in
+      let had : hadAt p c τ j ≡ time c j =
+      eqb-true (hadAt p c τ j) (time c j) (sym (Run.done-is p c (o .room) τ j a) ∙ done) in
+      omega (
+        arith,
+        had,
+        Run.had-le p c (o .room) (span v) j a,
+        Run.had-later p c (o .room) τ (span v) j (o .room j a .0) (omega (arith, x .1)),
+      )))
       switches
 
   -- the finish of a job whose deadline is required
   module _ (j : ℕ) (a : v .policy .part j ≡ true) (q : required v c j ≡ true) where
     pub ends-as : outcomeIn v c j ≡ finished (finishOf (v .policy) c (span v) j)
     unfolding outcomeIn outcome switchIn
-    ends-as = rw (required-kept j q .0) refl
+    ends-as = rw (not-dropped j q) refl
 
     pub ends-had : hadAt (v .policy) c (span v) j ≡ time c j
-    ends-had = by-span v o b c in-limit (span v) j a (required-kept j q .1) (omega arith)
+    ends-had = kept-had j a (not-dropped j q)
 
     pub ends-span : finishOf (v .policy) c (span v) j ≤ span v
     ends-span = finish-none (v .policy) c (o .room) (span v) j a (span v) (r j a .0) (omega arith) ends-had
@@ -114,13 +140,7 @@ module _ (v : View) (o : Ordered (v .policy)) (b : Bounded v) (c : List ℕ) (r 
     ends-done = finish-done (v .policy) c (o .room) (span v) j a ends-span .1
 
     pub ends-pos : 1 ≤ finishOf (v .policy) c (span v) j
-    ends-pos =
-        let f : ℕ = finishOf (v .policy) c (span v) j in
-        split (eqb f 0)
-        (λ z.
-        let had : hadAt (v .policy) c 0 j ≡ time c j = subst (λ n. hadAt (v .policy) c n j ≡ time c j) (eqb-true f 0 z) ends-done in
-        absurd (omega (arith, had, r j a .0, Run.had-zero (v .policy) c j (o .room j a .0))))
-        (λ z. let nz : f ≡ 0 → ⊥ = eqb-false f 0 z in omega (arith, nz))
+    ends-pos = finish-pos (v .policy) c (o .room) (span v) j a (r j a .0) ends-span
 
     pub ends-by : (t : ℕ) → time c j ≤ hadAt (v .policy) c t j → finishOf (v .policy) c (span v) j ≤ t
     ends-by t h =
@@ -174,3 +194,17 @@ module _ (v : View) (o : Ordered (v .policy)) (b : Bounded v) (c : List ℕ) (r 
         switches,
     λ h. ⊎-elim (λ (e, lo). e) (λ (τ, x). clash (x .2) (lo-always (v .policy) o c h τ)) switches,
   )
+
+  -- a job is dropped, or finishes by the span
+  pub outcome-cases : (j : ℕ) → v .policy .part j ≡ true
+      → (outcomeIn v c j ≡ dropped)
+      ⊎ ((outcomeIn v c j ≡ finished (finishOf (v .policy) c (span v) j)) × (finishOf (v .policy) c (span v) j ≤ span v))
+  unfolding outcomeIn outcome switchIn
+  outcome-cases j a =
+      split (droppedBy (v .policy) c j (switchIn v c))
+      (λ d. inl (rw d refl))
+      (λ d.
+      inr (
+        rw d refl,
+        finish-none (v .policy) c (o .room) (span v) j a (span v) (r j a .0) (omega arith) (kept-had j a d),
+      ))

@@ -25,11 +25,10 @@ use Rattle.theory.proofs.Bools.{tests, split, clash, and-l, and-r, and-
 use Rattle.theory.proofs.Lists.{first-some, first-none}
 use Rattle.theory.proofs.Sums.{total-le, total-lt, total-eq, total-one}
 use Rattle.theory.proofs.Orders.{before, before-self, before-mem, before-trans, first-before, first-fails, embed-before, embed-one}
-use Rattle.theory.proofs.Places.{members-i, members-e, is-hi}
+use Rattle.theory.proofs.Places.{members-i, members-e, members-distinct, members-nonzero, is-hi}
 use Rattle.theory.proofs.Runs as Run
 use Rattle.theory.proofs.Sound.{Ordered}
 use Rattle.theory.proofs.Ends.{no-idle}
-use Rattle.theory.proofs.Checks.{members-distinct}
 
 -- i is a HI job of p, unfinished in the run c at τ
 unfoldable pub unfinished : Policy → List ℕ → ℕ → ℕ → Bool
@@ -141,7 +140,7 @@ module _ (w v : View) (e : ℕ → ℕ) (k : Weaker e w v) (ow : Ordered (w .pol
       (λ z.
       let here : x i ≡ true = and-i h z in
       let some : j ≡ 0 → ⊥ =
-      λ n. clash here (first-none x (members (w .policy)) i no-zero-member n m) in
+      λ n. clash here (first-none x (members (w .policy)) i (members-nonzero (w .policy)) n m) in
       let r = first-some x (members (w .policy)) some .1 in
       let hj : W j ≡ true = and-l (W j) (eqb (e j) (slotAt q d t)) r in
       let ej : e j ≡ slotAt q d t = eqb-true (e j) (slotAt q d t) (and-r (W j) (eqb (e j) (slotAt q d t)) r) in
@@ -157,10 +156,6 @@ module _ (w v : View) (e : ℕ → ℕ) (k : Weaker e w v) (ow : Ordered (w .pol
       (split (W j)
       (λ h. omega (arith, left-d-is t j h, left-d-is (suc t) j h, Run.had-more q d (ov .room) t (e j) (one-W j h .1)))
       (λ h. omega (arith, none t j h)))
-    where
-      no-zero-member : mem 0 (members (w .policy)) ≡ false
-      no-zero-member =
-          split (mem 0 (members (w .policy))) (λ m. absurd (omega (arith, ow .room 0 (members-e (w .policy) 0 m)))) (λ m. m)
 
   -- the work left of a counted job in c never grows
   falls-c : (t i : ℕ) → W i ≡ true → left-c (suc t) i ≤ left-c t i

@@ -1,7 +1,7 @@
 -- The places of a list with one for each job, and what one slot does to a state.
 --   Placed p         == a number that takes part is a place, 1 to 64
 --   at-in, at-out, at-set, place   == what stands at a place
---   members-i, members-e           == who is a member takes part
+--   members-..       == who is a member takes part; none is one twice, and 0 is none
 --   account-..       == the parts of the state after a slot
 -- Assumes nothing.
 use Prim.Native.Nat.{ℕ, zero, suc, _+_, _-_, _≤_, _<_}
@@ -23,7 +23,8 @@ use Rattle.model.specs.Sets.{Policy, isHi, members, critical}
 use Rattle.model.specs.Runs.{time, start, overruns, modeNow, ready, pick, bump, account, step, stateAt, modeAt, slotAt, hadAt, doneAt}
 use Rattle.theory.proofs.Bools.{tests, split, clash, same, not-i, not-i-false, and-l, and-r, and-i, or-l, or-r, or-cases, or-no-l, or-no-r, or-i-no}
 use Rattle.theory.proofs.Lists.{any-i, any-e, any-no, only-i, only-e, first-some}
-use Rattle.theory.proofs.Sums.{at-numbers, from-mem, mem-from}
+use Rattle.theory.specs.Orders.{distinct}
+use Rattle.theory.proofs.Sums.{from-mem, mem-from, from-distinct, only-distinct}
 use Rattle.theory.proofs.Orders.{first-before, before-mem}
 
 -- places ------------------------------------------------------------------------------------------------------------------------------
@@ -68,6 +69,15 @@ members-i p j r h = only-i (p .part) (from 1 64) j (from-mem 1 64 j (omega (arit
 pub members-e : (p : Policy) (j : ℕ) → mem j (members p) ≡ true → p .part j ≡ true
 unfolding members numbers
 members-e p j m = only-e (p .part) (from 1 64) j m .1
+
+pub members-distinct : (p : Policy) → distinct (members p) ≡ true
+unfolding members numbers
+members-distinct p = only-distinct (p .part) (from 1 64) (from-distinct 1 64)
+
+pub members-nonzero : (p : Policy) → mem 0 (members p) ≡ false
+unfolding members numbers
+members-nonzero p =
+    split (mem 0 (members p)) (λ m. absurd (omega (arith, mem-from 1 64 0 (only-e (p .part) (from 1 64) 0 m .0)))) (λ n. n)
 
 pub is-lo : (m : Level) → isHi m ≡ false → m ≡ Lo
 unfolding isHi

@@ -25,7 +25,7 @@ use Rattle.theory.specs.Misses.{ScenarioOf, Earlier, Missed}
 use Rattle.theory.proofs.Bools.{split, clash, not-i}
 use Rattle.theory.proofs.Lists.{mem-head, mem-tail, mem-cases, not-mem-nil, only-e, first-some, first-none, first-zero, any-none, any-no}
 use Rattle.theory.proofs.Sums.{mem-from}
-use Rattle.theory.proofs.Places.{Placed, members-i, members-e}
+use Rattle.theory.proofs.Places.{Placed, members-i, members-e, members-nonzero}
 use Rattle.theory.proofs.Checks.{hi-jobs-mem, hi-jobs-i}
 
 -- rising lists ------------------------------------------------------------------------------------------------------------------------
@@ -61,14 +61,11 @@ first-lowest test (x ∷ l) (h, r) i m q =
 
 -- one scenario ------------------------------------------------------------------------------------------------------------------------
 
-members-nonzero : (p : Policy) → Placed p → mem 0 (members p) ≡ false
-members-nonzero p r = split (mem 0 (members p)) (λ m. absurd (omega (arith, r 0 (members-e p 0 m)))) (λ m. m)
-
 pub late-none : (v : View) (c : List ℕ) → Placed (v .policy) → (lateIn v c ≡ 0) ↔ (meets v c ≡ true)
 unfolding lateIn meets
 late-none v c r =
     let l = members (v .policy) in (
-      λ e. not-i (any-none (missed v c) l (λ j m. first-none (missed v c) l j (members-nonzero (v .policy) r) e m)),
+      λ e. not-i (any-none (missed v c) l (λ j m. first-none (missed v c) l j (members-nonzero (v .policy)) e m)),
       λ h. first-zero (missed v c) l (λ j m. any-no (missed v c) l j (not-true (any (missed v c) l) h) m),
     )
 
