@@ -11,7 +11,7 @@
 --   largest f l   == the largest f of an entry of l; 0 where l is empty
 --   cut d n l     == the first n entries of l, with d for each that l lacks
 use Prim.Native.Nat.{ℕ, zero, suc, _+_, _-_, max}
-use mathlib.Core.Bool.{Bool, true, false, cond, _||_}
+use mathlib.Core.Bool.{Bool, false, cond, _||_}
 use mathlib.Core.List.{List, [], _∷_}
 use lib.Dec.{eqb, ltb}
 use lib.ListN.{getD}

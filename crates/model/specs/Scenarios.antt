@@ -8,11 +8,11 @@
 --   rows v           == the finish times of all scenarios, row 0 LO and row J of HI job J
 --   worst v j        == the worst finish;  margin v j: D minus the worst finish
 use Prim.Native.Nat.{ℕ}
-use mathlib.Core.Bool.{Bool, true, cond, not, _&&_, _||_}
+use mathlib.Core.Bool.{Bool, cond, not, _&&_, _||_}
 use mathlib.Core.List.{List, [], _∷_, map}
 use lib.Dec.{eqb}
 use lib.IntN.{ℤ, pos, _-ℤ_}
-use lib.ListN.{getD, replicate}
+use lib.ListN.{replicate}
 use Rattle.model.specs.declared.Scenario.{Scenario}
 use Rattle.model.specs.declared.Scenario.the-variants.{Lo, Hi}
 use Rattle.model.specs.declared.Verdict.{Verdict}

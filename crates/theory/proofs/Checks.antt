@@ -19,16 +19,16 @@ use borrow.Author.Tests.{eqb-true, eqb-false, not-true, not-false, le-leb}
 use Rattle.model.specs.declared.Level.the-variants.{Lo, Hi}
 use Rattle.model.specs.declared.Set.{Set}
 use Rattle.model.specs.declared.Refusal.{Refusal}
-use Rattle.model.specs.Lists.{from, numbers, first, any, mem}
-use Rattle.model.specs.Sets.{Policy, View, view, orderOf, countOf, members, critical, span}
+use Rattle.model.specs.Lists.{from, first, any, mem}
+use Rattle.model.specs.Sets.{View, view, orderOf, countOf, members, critical, span}
 use Rattle.model.specs.Runs.{time, limit, inRange, isRun}
 use Rattle.model.specs.Scenarios.{hiJobs}
 use Rattle.model.specs.Refusals.{isGood, applies, placed, firstOf, lowest, faultFrom, fault, checkCount, timeWrong, checkTime, budgetWrong, checkBudget, checkSpan, checkLoOrder, isHiJob, checkHiOrder, checks, refusal}
-use Rattle.theory.specs.Orders.{distinct}
-use Rattle.theory.proofs.Bools.{tests, split, clash, not-i, not-i-false, and-l, and-r, and-i, or-no-l, or-no-r}
-use Rattle.theory.proofs.Lists.{any-no, any-none, mem-cases, not-mem-nil, only-i, only-e, first-none}
-use Rattle.theory.proofs.Sums.{from-mem, mem-from, from-distinct, only-distinct}
-use Rattle.theory.proofs.Places.{Placed, members-i, members-e, members-nonzero}
+use Rattle.laws.proofs.Lists.{distinct}
+use Rattle.laws.proofs.Bools.{tests, split, clash, not-i, not-i-false, and-l, and-r, and-i, or-no-l, or-no-r}
+use Rattle.laws.proofs.Lists.{any-no, any-none, mem-cases, not-mem-nil, only-i, only-e, first-none}
+use Rattle.laws.proofs.Sums.{from-mem}
+use Rattle.laws.proofs.Places.{Placed, members-i, members-e, members-nonzero}
 use Rattle.theory.proofs.Pigeonhole.{length-from, length-cut, pigeonhole}
 use Rattle.theory.proofs.Sound.{Sound}
 

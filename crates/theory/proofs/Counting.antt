@@ -17,13 +17,14 @@ use borrow.Author.Tests.{ne-eqb, eqb-true, eqb-false}
 use Rattle.model.specs.declared.Level.the-variants.{Lo}
 use Rattle.model.specs.Lists.{only, mem, total, largest}
 use Rattle.model.specs.Sets.{View, members, span}
-use Rattle.theory.specs.Orders.{distinct}
+use Rattle.laws.proofs.Lists.{distinct}
 use Rattle.theory.specs.Weaker.{Weaker}
-use Rattle.theory.proofs.Bools.{split, clash, not-i, not-i-false, and-i}
-use Rattle.theory.proofs.Lists.{mem-head, mem-tail, mem-cases, not-mem-nil, only-i}
-use Rattle.theory.proofs.Sums.{total-le, largest-le}
-use Rattle.theory.proofs.Orders.{head-out, tail-distinct, embed-one}
-use Rattle.theory.proofs.Places.{members-i, members-e, members-distinct}
+use Rattle.laws.proofs.Bools.{split, clash, not-i, not-i-false, and-i}
+use Rattle.laws.proofs.Lists.{mem-head, mem-tail, mem-cases, not-mem-nil, only-i}
+use Rattle.laws.proofs.Sums.{total-le, largest-le}
+use Rattle.laws.proofs.Lists.{head-out, tail-distinct}
+use Rattle.theory.proofs.Orders.{embed-one}
+use Rattle.laws.proofs.Places.{members-i, members-e, members-distinct}
 use Rattle.theory.proofs.Sound.{Ordered}
 
 -- sums ---------------------------------------------------------------------------------------------------------------------------------

@@ -3,30 +3,30 @@
 --   dominates-lo == as long as the run is in LO mode, a job is finished once its image has had its LO budget in scenario 0
 --   dominates-hi == a HI job unfinished at the switch has a scenario J such that it is finished once its image has had its HI budget there
 -- Assumes nothing.
-use Prim.Native.Nat.{ℕ, zero, suc, _+_, _-_, _≤_, _<_, min}
+use Prim.Native.Nat.{ℕ, suc, _-_, _≤_, _<_}
 use mathlib.Core.Path.{_≡_, refl, sym, _∙_, ap, subst}
 use mathlib.Core.Bool.{Bool, true, false, _&&_}
 use mathlib.Core.List.{List}
-use mathlib.Core.Logic.{_⊎_, inl, inr, ⊎-elim}
+use mathlib.Core.Logic.{inl, inr}
 use native.Mathlib.Omega.{arith}
 use lib.Dec.{eqb, leb, ltb}
 use borrow.Author.Tests.{eqb-true, eqb-false, le-leb, leb-true}
 use Rattle.model.specs.declared.Scenario.the-variants.{Hi as HiOf}
 use Rattle.model.specs.Lists.{any, least}
-use Rattle.model.specs.Sets.{Policy, View, isHi, members, critical, span}
+use Rattle.model.specs.Sets.{View, isHi, members, critical, span}
 use Rattle.model.specs.Runs.{time, modeAt, slotAt, hadAt, limit}
 use Rattle.model.specs.Scenarios.{loTimes, turn, timesOf}
 use Rattle.theory.specs.Weaker.{Weaker}
-use Rattle.theory.proofs.Bools.{tests, split, clash, and-l, and-r, and-i}
-use Rattle.theory.proofs.Lists.{any-i, any-e, any-no, least-before, least-passes, least-bound}
-use Rattle.theory.proofs.Places.{members-i, members-e}
-use Rattle.theory.proofs.Runs as Run
+use Rattle.laws.proofs.Bools.{tests, split, clash, and-l, and-r, and-i}
+use Rattle.laws.proofs.Lists.{any-i, any-e, any-no, least-before, least-passes, least-bound}
+use Rattle.laws.proofs.Places.{members-i}
+use Rattle.laws.proofs.Runs as Run
 use Rattle.theory.proofs.Sound.{Ordered, Sound}
 use Rattle.theory.proofs.Ends.{within, limit-lo}
-use Rattle.theory.proofs.Finishes.{finish-none}
+use Rattle.laws.proofs.Finishes.{finish-none}
 use Rattle.theory.proofs.PhaseOne.{ahead}
 use Rattle.theory.proofs.PhaseTwo.{unfinished, unfinished-e, end}
-use Rattle.theory.proofs.Scenarios.{lo-time, lo-stays, lo-ends, turn-span, turn-had, hi-raised, hi-least, lo-until}
+use Rattle.theory.proofs.Scenarios.{lo-time, lo-stays, lo-ends, turn-had, hi-raised, hi-least, lo-until}
 
 module _ (w v : View) (e : ℕ → ℕ) (k : Weaker e w v) (ow : Ordered (w .policy)) (sv : Sound v) (c : List ℕ) (wc : within w c) where
   low : (i : ℕ) → w .policy .part i ≡ true → critical (w .policy) i ≡ false → time c i ≤ w .policy .lo i

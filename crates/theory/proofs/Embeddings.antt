@@ -21,8 +21,8 @@ use Rattle.model.specs.Sets.{View, view, jobAt, orderOf}
 use Rattle.theory.specs.Orders.{subsequence}
 use Rattle.theory.specs.Weaker.{Weaker}
 use Rattle.theory.specs.Eased.{EasedJob, Eased}
-use Rattle.theory.proofs.Bools.{split, clash, and-l, and-r, and-i}
-use Rattle.theory.proofs.Lists.{mem-head, mem-tail}
+use Rattle.laws.proofs.Bools.{split, clash, and-l, and-r, and-i}
+use Rattle.laws.proofs.Lists.{mem-head, mem-tail}
 use Rattle.theory.proofs.Orders.{sub-cons}
 
 -- sub-sequences ----------------------------------------------------------------------------------------------------------------------

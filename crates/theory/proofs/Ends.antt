@@ -6,24 +6,23 @@
 --   Bounded v      == no job's largest budget is above its HI budget; so it is in a sound set (limit-hi)
 --   by-span        == from the span on, a kept job has had its time
 -- Assumes nothing.
-use Prim.Native.Nat.{ℕ, zero, suc, _+_, _-_, _≤_, _<_}
-use mathlib.Core.Path.{_≡_, refl, sym, _∙_, ap, subst}
-use mathlib.Core.Bool.{Bool, true, false, not, cond, _&&_}
+use Prim.Native.Nat.{ℕ, zero, suc, _+_, _≤_, _<_}
+use mathlib.Core.Path.{_≡_, refl, sym, _∙_, subst}
+use mathlib.Core.Bool.{true, false}
 use mathlib.Core.List.{List}
 use mathlib.Core.Logic.{_⊎_, inl, inr, ⊎-elim}
 use native.Mathlib.Omega.{arith}
-use lib.Dec.{eqb, leb, ltb}
-use borrow.Author.Tests.{eqb-true, eqb-false}
+use lib.Dec.{ltb}
 use Rattle.model.specs.declared.Level.{Level}
 use Rattle.model.specs.declared.Level.the-variants.{Lo, Hi}
 use Rattle.model.specs.Lists.{mem, total, largest}
 use Rattle.model.specs.Sets.{Policy, View, isHi, members, critical, span}
 use Rattle.model.specs.Runs.{time, ready, stateAt, modeAt, slotAt, hadAt, limit}
-use Rattle.theory.proofs.Bools.{tests, split, clash}
-use Rattle.theory.proofs.Sums.{total-le, total-lt, largest-le}
+use Rattle.laws.proofs.Bools.{tests, split, clash}
+use Rattle.laws.proofs.Sums.{total-lt, largest-le}
 use Rattle.theory.proofs.Orders.{first-not-zero}
-use Rattle.theory.proofs.Places.{members-i, members-e, is-lo, is-hi}
-use Rattle.theory.proofs.Runs as Run
+use Rattle.laws.proofs.Places.{members-i, members-e, is-lo, is-hi}
+use Rattle.laws.proofs.Runs as Run
 use Rattle.theory.proofs.Sound.{Ordered, Sound}
 
 abbrev pub within : View → List ℕ → Type 0

@@ -5,13 +5,13 @@
 --   runs-meet        == so each run of it meets what it requires
 --   meet-fit         == a set whose every run does is fit
 -- Assumes nothing.
-use Prim.Native.Nat.{ℕ, zero, suc, _+_, _≤_, _<_}
+use Prim.Native.Nat.{ℕ, _≤_, _<_}
 use mathlib.Core.Path.{_≡_, refl, sym, _∙_, ap, subst}
-use mathlib.Core.Bool.{Bool, true, false}
+use mathlib.Core.Bool.{true, false}
 use mathlib.Core.List.{List}
-use mathlib.Core.Logic.{_⊎_, inl, inr, ⊎-elim, _↔_}
+use mathlib.Core.Logic.{⊎-elim}
 use native.Mathlib.Omega.{arith}
-use lib.Dec.{eqb, leb, ltb}
+use lib.Dec.{leb, ltb}
 use Rattle.model.specs.declared.Scenario.{Scenario}
 use Rattle.model.specs.declared.Scenario.the-variants.{Lo, Hi}
 use Rattle.model.specs.declared.Switch.{Switch}
@@ -22,15 +22,15 @@ use Rattle.model.specs.Runs.{time, modeAt, hadAt, finishOf, switchIn, required,
 use Rattle.model.specs.Scenarios.{loTimes, timesOf, verdict}
 use Rattle.theory.specs.Weaker.{Weaker}
 use Rattle.theory.specs.Misses.{ScenarioOf}
-use Rattle.theory.proofs.Bools.{tests, split, clash}
-use Rattle.theory.proofs.Runs as Run
+use Rattle.laws.proofs.Bools.{tests, split, clash}
+use Rattle.laws.proofs.Runs as Run
 use Rattle.theory.proofs.Sound.{Ordered, Sound}
 use Rattle.theory.proofs.Ends.{within, Bounded, limit-hi}
 use Rattle.theory.proofs.Checks.{check-run}
 use Rattle.theory.proofs.Scenarios.{lo-time, lo-within, lo-stays, hi-least, hi-within}
 use Rattle.theory.proofs.PhaseTwo.{unfinished-i}
 use Rattle.theory.proofs.Dominance.{dominates-lo, dominates-hi}
-use Rattle.theory.proofs.Outcomes.{Times, Switches, switches, ends-done, ends-by, meets-e, meets-i}
+use Rattle.theory.proofs.Outcomes.{Times, switches, ends-done, ends-by, meets-e, meets-i}
 use Rattle.theory.proofs.Verdicts.{fit-meets}
 
 pub scenario-times : (v : View) → Sound v → (x : Scenario) → ScenarioOf v x → Times v (timesOf v x)

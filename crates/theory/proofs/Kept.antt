@@ -16,13 +16,13 @@ use Rattle.model.specs.declared.Job.{Job}
 use Rattle.model.specs.declared.Set.{Set}
 use Rattle.model.specs.Lists.{at, from, numbers, only, mem}
 use Rattle.model.specs.Sets.{view, critical, isHi, orderOf}
-use Rattle.theory.specs.Orders.{distinct}
+use Rattle.laws.proofs.Lists.{distinct}
 use Rattle.theory.specs.Without.{kept, oldNumber, newNumber, closed, without}
-use Rattle.theory.proofs.Bools.{tests, split}
-use Rattle.theory.proofs.Lists.{only-i, only-e}
-use Rattle.theory.proofs.Sums.{from-distinct, only-distinct}
+use Rattle.laws.proofs.Bools.{tests, split}
+use Rattle.laws.proofs.Lists.{only-i, only-e}
+use Rattle.laws.proofs.Sums.{from-distinct, only-distinct}
 use Rattle.theory.proofs.Orders.{map-mem}
-use Rattle.theory.proofs.Places.{Placed, at-in, at-out}
+use Rattle.laws.proofs.Places.{Placed, at-in, at-out}
 use Rattle.theory.proofs.Sound.{Ordered, Sound}
 use Rattle.theory.proofs.Counting.{map-e, map-distinct, getD-one, weaker-span}
 use Rattle.theory.proofs.Pigeonhole.{length-from, only-most}

@@ -7,36 +7,36 @@
 --   margin-range     == it lies between -4,095 and 65,534
 --   fit-margins      == a set is fit exactly if no margin is negative
 -- Assumes nothing.
-use Prim.Native.Nat.{ℕ, zero, suc, _+_, _-_, _≤_, _<_, max}
+use Prim.Native.Nat.{ℕ, zero, suc, _+_, _-_, _≤_, max}
 use mathlib.Core.Path.{_≡_, refl, sym, _∙_, ap, subst}
-use mathlib.Core.Bool.{Bool, true, false, cond, not, _&&_, _||_}
+use mathlib.Core.Bool.{true, false, cond, not, _&&_, _||_}
 use mathlib.Core.List.{List, [], _∷_, map}
 use mathlib.Core.Logic.{_⊎_, inl, inr, ⊎-elim, _↔_}
 use native.Mathlib.Omega.{arith}
-use lib.Dec.{eqb, leb, ltb}
-use lib.IntN.{ℤ, pos, negsuc, _-ℤ_}
+use lib.Dec.{leb, ltb}
+use lib.IntN.{pos, negsuc, _-ℤ_}
 use lib.ListN.{getD-replicate}
 use borrow.Author.Tests.{ltb-true, lt-ltb, le-ltb, eqb-true, not-false}
 use Rattle.model.specs.declared.Scenario.{Scenario}
 use Rattle.model.specs.declared.Scenario.the-variants.{Lo, Hi}
-use Rattle.model.specs.declared.Switch.the-variants.{Never, At}
+use Rattle.model.specs.declared.Switch.the-variants.{At}
 use Rattle.model.specs.declared.Verdict.the-variants.{Fit}
-use Rattle.model.specs.Lists.{at, from, numbers, mem, largest}
-use Rattle.model.specs.Sets.{View, isHi, critical, span}
-use Rattle.model.specs.Runs.{time, modeAt, hadAt, doneAt, finishOf, switchOf, droppedBy, Outcome, outcome, mark, outcomeIn, switchIn, required, requiredAfter, late, meets}
-use Rattle.model.specs.Scenarios.{places, zeros, loTimes, turn, hiTime, timesOf, finishIn, verdict, row, hiRow, rows, worst, margin}
+use Rattle.model.specs.Lists.{at, numbers, mem, largest}
+use Rattle.model.specs.Sets.{View, critical, span}
+use Rattle.model.specs.Runs.{time, hadAt, doneAt, finishOf, switchOf, droppedBy, outcome, mark, outcomeIn, switchIn, required, requiredAfter, late}
+use Rattle.model.specs.Scenarios.{zeros, loTimes, turn, hiTime, timesOf, finishIn, verdict, row, hiRow, rows, worst, margin}
 use Rattle.theory.specs.Misses.{ScenarioOf}
 use Rattle.theory.specs.Signs.{negative, signed}
-use Rattle.theory.proofs.Bools.{tests, split, clash, and-i, and-l, and-r, and-no-l, or-no-l}
-use Rattle.theory.proofs.Lists.{mem-head, mem-tail}
-use Rattle.theory.proofs.Sums.{largest-le, from-mem}
-use Rattle.theory.proofs.Places.{at-in, at-out}
-use Rattle.theory.proofs.Runs as Run
+use Rattle.laws.proofs.Bools.{tests, split, clash, and-i, and-l, and-r, or-no-l}
+use Rattle.laws.proofs.Lists.{mem-head, mem-tail}
+use Rattle.laws.proofs.Sums.{largest-le, from-mem}
+use Rattle.laws.proofs.Places.{at-in, at-out}
+use Rattle.laws.proofs.Runs as Run
 use Rattle.theory.proofs.Sound.{Sound}
 use Rattle.theory.proofs.Ends.{limit-hi}
-use Rattle.theory.proofs.Finishes.{finish-none, finish-done, finish-before}
+use Rattle.laws.proofs.Finishes.{finish-none}
 use Rattle.theory.proofs.Scenarios.{place-time, lo-time, lo-stays, lo-until, agree, hi-time, hi-at-turn}
-use Rattle.theory.proofs.Outcomes.{Switches, switches, ends-as, ends-span, ends-pos, ends-by, ends-done, meets-e, meets-i}
+use Rattle.theory.proofs.Outcomes.{switches, ends-as, ends-span, ends-pos, ends-by, ends-done, meets-e, meets-i}
 use Rattle.theory.proofs.Verdicts.{fit-meets}
 use Rattle.theory.proofs.Fitness.{scenario-times, required-hi, required-lo}
 

@@ -9,15 +9,15 @@
 -- Assumes nothing.
 use Prim.Native.Nat.{ℕ}
 use mathlib.Core.Path.{_≡_, refl, sym, _∙_, ap, subst}
-use mathlib.Core.Bool.{Bool, true, false, not, cond, _&&_, _||_, true≢false}
+use mathlib.Core.Bool.{Bool, true, false, not, _&&_, _||_}
 use mathlib.Core.List.{List, [], _∷_, map}
 use mathlib.Core.Logic.{_⊎_, inl, inr, ⊎-elim}
 use lib.Dec.{eqb}
 use borrow.Author.Tests.{eq-eqb, ne-eqb, eqb-true, eqb-false, not-true}
 use Rattle.model.specs.Lists.{first, any, mem}
-use Rattle.theory.specs.Orders.{distinct, subsequence}
-use Rattle.theory.proofs.Bools.{split, clash, not-i, and-l, and-r, and-i, or-l, or-r, or-cases}
-use Rattle.theory.proofs.Lists.{mem-head, mem-tail, mem-cases, not-mem-nil, first-some}
+use Rattle.theory.specs.Orders.{subsequence}
+use Rattle.laws.proofs.Bools.{split, clash, not-i, and-l, and-r, and-i, or-l, or-r, or-cases}
+use Rattle.laws.proofs.Lists.{mem-head, mem-tail, mem-cases, not-mem-nil, distinct, head-out, tail-distinct}
 
 unfoldable pub before : List ℕ → ℕ → ℕ → Bool
 before [] a b = false
@@ -124,14 +124,6 @@ map-mem e (x ∷ l) a m =
     ⊎-elim (λ p. subst (λ k. mem k (e x ∷ map e l) ≡ true) (sym (ap e p)) (mem-head (e x) (map e l)))
     (λ q. mem-tail (e a) (e x) (map e l) (map-mem e l a q))
     (mem-cases a x l m)
-
-pub head-out : (x : ℕ) (l : List ℕ) → distinct (x ∷ l) ≡ true → mem x l ≡ false
-unfolding distinct
-head-out x l d = not-true (mem x l) (and-l (not (mem x l)) (distinct l) d)
-
-pub tail-distinct : (x : ℕ) (l : List ℕ) → distinct (x ∷ l) ≡ true → distinct l ≡ true
-unfolding distinct
-tail-distinct x l d = and-r (not (mem x l)) (distinct l) d
 
 pub embed-one : (e : ℕ → ℕ) (l m : List ℕ) → distinct m ≡ true → subsequence (map e l) m ≡ true
     → (a b : ℕ) → mem a l ≡ true → mem b l ≡ true → e a ≡ e b → a ≡ b

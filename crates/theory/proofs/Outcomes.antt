@@ -6,9 +6,9 @@
 --   ends-..        == the finish of a job whose deadline is required;  outcome-cases: a job is dropped or finishes by the span
 --   meets-e, meets-i == the run meets what it requires exactly if each such finish is by the deadline
 -- Assumes nothing.
-use Prim.Native.Nat.{ℕ, zero, suc, _+_, _-_, _≤_, _<_}
+use Prim.Native.Nat.{ℕ, zero, suc, _≤_, _<_}
 use mathlib.Core.Path.{_≡_, refl, sym, _∙_, ap, subst}
-use mathlib.Core.Bool.{Bool, true, false, cond, not, _&&_, _||_}
+use mathlib.Core.Bool.{Bool, true, false, not, _||_}
 use mathlib.Core.List.{List}
 use mathlib.Core.Logic.{_⊎_, inl, inr, ⊎-elim, _↔_}
 use native.Mathlib.Omega.{arith}
@@ -17,15 +17,15 @@ use borrow.Author.Tests.{eqb-true, eqb-false, le-ltb, not-true, not-false}
 use Rattle.model.specs.declared.Switch.{Switch}
 use Rattle.model.specs.declared.Switch.the-variants.{Never, At}
 use Rattle.model.specs.Lists.{any, least}
-use Rattle.model.specs.Sets.{Policy, View, isHi, members, critical, span}
-use Rattle.model.specs.Runs.{time, modeAt, hadAt, doneAt, finishOf, switchOf, droppedBy, Outcome, finished, dropped, outcome, mark, requiredAfter, outcomeIn, switchIn, required, late, missed, meets, limit, isRun}
-use Rattle.theory.proofs.Bools.{tests, split, clash, not-i, and-i, and-l, and-r, and-no-l, and-no-r, or-no-l}
-use Rattle.theory.proofs.Lists.{any-none, any-no, least-le, least-before, least-passes, least-all}
-use Rattle.theory.proofs.Places.{members-i, members-e}
-use Rattle.theory.proofs.Runs as Run
-use Rattle.theory.proofs.Sound.{Ordered, Sound}
+use Rattle.model.specs.Sets.{View, isHi, members, critical, span}
+use Rattle.model.specs.Runs.{time, modeAt, hadAt, doneAt, finishOf, switchOf, droppedBy, Outcome, finished, dropped, outcome, mark, requiredAfter, outcomeIn, switchIn, required, late, missed, meets, limit}
+use Rattle.laws.proofs.Bools.{tests, split, clash, not-i, and-i, and-no-l, and-no-r, or-no-l}
+use Rattle.laws.proofs.Lists.{any-none, any-no, least-le, least-before, least-passes}
+use Rattle.laws.proofs.Places.{members-i, members-e}
+use Rattle.laws.proofs.Runs as Run
+use Rattle.theory.proofs.Sound.{Ordered}
 use Rattle.theory.proofs.Ends.{within, Bounded, Kept, by-span}
-use Rattle.theory.proofs.Finishes.{finish-done, finish-pos, finish-none}
+use Rattle.laws.proofs.Finishes.{finish-done, finish-pos, finish-none}
 use Rattle.theory.proofs.Scenarios.{lo-always}
 
 -- the times of a run, as facts

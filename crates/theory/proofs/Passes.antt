@@ -15,13 +15,13 @@ use Rattle.model.specs.Lists.{from, first, any, mem}
 use Rattle.model.specs.Sets.{View, view, critical, members, span, orderOf, countOf}
 use Rattle.model.specs.Scenarios.{hiJobs}
 use Rattle.model.specs.Refusals.{good, isGood, applies, placed, firstOf, lowest, faultFrom, fault, checkCount, timeWrong, checkTime, budgetWrong, checkBudget, checkSpan, checkLoOrder, isHiJob, checkHiOrder, checks, refusal}
-use Rattle.theory.specs.Orders.{distinct}
+use Rattle.laws.proofs.Lists.{distinct}
 use Rattle.theory.specs.Without.{newNumber, without}
-use Rattle.theory.proofs.Bools.{split, clash, not-i, not-i-false, and-i, or-i-no}
-use Rattle.theory.proofs.Lists.{mem-head, mem-tail, only-i, only-e, first-zero}
-use Rattle.theory.proofs.Sums.{from-mem, mem-from, from-distinct, only-distinct}
-use Rattle.theory.proofs.Orders.{head-out, tail-distinct}
-use Rattle.theory.proofs.Places.{members-i, members-e, members-distinct}
+use Rattle.laws.proofs.Bools.{split, clash, not-i, not-i-false, and-i, or-i-no}
+use Rattle.laws.proofs.Lists.{mem-head, mem-tail, only-i, only-e, first-zero}
+use Rattle.laws.proofs.Sums.{from-mem, mem-from, from-distinct, only-distinct}
+use Rattle.laws.proofs.Lists.{head-out, tail-distinct}
+use Rattle.laws.proofs.Places.{members-i, members-e, members-distinct}
 use Rattle.theory.proofs.Sound.{Ordered, Sound}
 use Rattle.theory.proofs.Counting.{same-length}
 use Rattle.theory.proofs.Pigeonhole.{length-from, length-cut}

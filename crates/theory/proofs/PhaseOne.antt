@@ -4,23 +4,23 @@
 --   ahead      == as long as both are in LO mode
 --   lo-line    == in LO mode, who has had its LO budget in scenario 0 of v is finished in c
 -- Assumes nothing.
-use Prim.Native.Nat.{ℕ, zero, suc, _+_, _-_, _≤_, _<_, min}
-use mathlib.Core.Path.{_≡_, refl, sym, _∙_, ap, subst}
-use mathlib.Core.Bool.{Bool, true, false}
+use Prim.Native.Nat.{ℕ, zero, suc, _≤_, _<_, min}
+use mathlib.Core.Path.{_≡_, refl, sym, _∙_, subst}
+use mathlib.Core.Bool.{true, false}
 use mathlib.Core.List.{List}
 use mathlib.Core.Logic.{inl}
 use native.Mathlib.Omega.{arith}
-use lib.Dec.{eqb, leb, ltb}
+use lib.Dec.{eqb}
 use borrow.Author.Tests.{eqb-true, eqb-false}
-use Rattle.model.specs.declared.Level.the-variants.{Lo, Hi}
+use Rattle.model.specs.declared.Level.the-variants.{Lo}
 use Rattle.model.specs.Lists.{mem}
-use Rattle.model.specs.Sets.{Policy, View, isHi, critical}
+use Rattle.model.specs.Sets.{View, isHi, critical}
 use Rattle.model.specs.Runs.{time, ready, stateAt, modeAt, slotAt, hadAt}
 use Rattle.theory.specs.Weaker.{Weaker}
-use Rattle.theory.proofs.Bools.{tests, split, clash}
+use Rattle.laws.proofs.Bools.{split}
 use Rattle.theory.proofs.Orders.{before, first-before, first-fails, embed-before, embed-one}
-use Rattle.theory.proofs.Places.{is-lo}
-use Rattle.theory.proofs.Runs as Run
+use Rattle.laws.proofs.Places.{is-lo}
+use Rattle.laws.proofs.Runs as Run
 use Rattle.theory.proofs.Sound.{Ordered}
 use Rattle.theory.proofs.Ends.{no-idle}
 

@@ -7,26 +7,26 @@
 --   no-more        == the sum is no more in c than in d, at every instant from τ on
 --   end            == B is finished in c after the slot that completes its image in d
 -- Assumes nothing.
-use Prim.Native.Nat.{ℕ, zero, suc, _+_, _-_, _≤_, _<_, min}
-use mathlib.Core.Path.{_≡_, refl, sym, _∙_, ap, subst}
-use mathlib.Core.Bool.{Bool, true, false, cond, not, _&&_, _||_}
+use Prim.Native.Nat.{ℕ, suc, _-_, _≤_, _<_}
+use mathlib.Core.Path.{_≡_, refl, sym, _∙_, subst}
+use mathlib.Core.Bool.{Bool, true, false, cond, _&&_}
 use mathlib.Core.List.{List}
-use mathlib.Core.Logic.{_⊎_, inl, inr, ⊎-elim}
+use mathlib.Core.Logic.{inr}
 use native.Mathlib.Omega.{arith}
 use native.Mathlib.Decide.{le-ind}
 use lib.Dec.{eqb, leb, ltb}
-use borrow.Author.Tests.{eqb-true, eqb-false, eq-eqb, ne-eqb, lt-ltb, le-ltb, ltb-true}
-use Rattle.model.specs.declared.Level.the-variants.{Lo, Hi}
+use borrow.Author.Tests.{eqb-true, eqb-false, lt-ltb, le-ltb, ltb-true}
+use Rattle.model.specs.declared.Level.the-variants.{Hi}
 use Rattle.model.specs.Lists.{mem, first, total}
 use Rattle.model.specs.Sets.{Policy, View, isHi, members, critical}
 use Rattle.model.specs.Runs.{time, ready, stateAt, modeAt, slotAt, hadAt}
 use Rattle.theory.specs.Weaker.{Weaker}
-use Rattle.theory.proofs.Bools.{tests, split, clash, and-l, and-r, and-i}
-use Rattle.theory.proofs.Lists.{first-some, first-none}
-use Rattle.theory.proofs.Sums.{total-le, total-lt, total-eq, total-one}
+use Rattle.laws.proofs.Bools.{tests, split, clash, and-l, and-r, and-i}
+use Rattle.laws.proofs.Lists.{first-some, first-none}
+use Rattle.laws.proofs.Sums.{total-le, total-lt, total-eq, total-one}
 use Rattle.theory.proofs.Orders.{before, before-self, before-mem, before-trans, first-before, first-fails, embed-before, embed-one}
-use Rattle.theory.proofs.Places.{members-i, members-e, members-distinct, members-nonzero, is-hi}
-use Rattle.theory.proofs.Runs as Run
+use Rattle.laws.proofs.Places.{members-i, members-distinct, members-nonzero, is-hi}
+use Rattle.laws.proofs.Runs as Run
 use Rattle.theory.proofs.Sound.{Ordered}
 use Rattle.theory.proofs.Ends.{no-idle}
 

@@ -1,12 +1,11 @@
 -- What the auditor asked for. Every statement is about sets that pass checks 2 to 7 (`Passes s`), in the words of `specs/Words`, and about the runs
 -- of document 01, not about any program. A run c of s (`RunOf s c`) gives each job any whole time from 1 to its largest budget.
 -- Assumes nothing.
-use Prim.Native.Nat.{ℕ, suc, _≤_, _<_}
+use Prim.Native.Nat.{ℕ, _≤_, _<_}
 use mathlib.Core.Path.{_≡_, refl, sym, _∙_, ap, subst}
 use mathlib.Core.Bool.{Bool, true, false}
-use mathlib.Core.List.{List, [], _∷_}
+use mathlib.Core.List.{List}
 use mathlib.Core.Logic.{_⊎_, inl, inr, ⊎-elim, _↔_}
-use native.Mathlib.Omega.{arith}
 use lib.Dec.{ltb}
 use borrow.Author.Tests.{ltb-true}
 use Rattle.model.specs.declared.Set.{Set}
@@ -14,28 +13,27 @@ use Rattle.model.specs.declared.Scenario.{Scenario}
 use Rattle.model.specs.declared.Scenario.the-variants.{Hi}
 use Rattle.model.specs.declared.Switch.the-variants.{Never, At}
 use Rattle.model.specs.declared.Miss.{Miss}
-use Rattle.model.specs.declared.Verdict.the-variants.{Fit, Unfit}
-use Rattle.model.specs.Sets.{View, isHi, jobAt, view, critical, span}
-use Rattle.model.specs.Runs.{time, modeAt, slotAt, hadAt, Outcome, finished, dropped, mark, outcomeIn, switchIn, required, requiredAfter, late, missed, meets, limit}
+use Rattle.model.specs.declared.Verdict.the-variants.{Unfit}
+use Rattle.model.specs.Sets.{View, isHi, jobAt, view, span}
+use Rattle.model.specs.Runs.{time, modeAt, slotAt, hadAt, finished, dropped, mark, outcomeIn, switchIn, required, requiredAfter, late, missed, meets, limit}
 use Rattle.model.specs.Scenarios.{loTimes, turn, timesOf, finishIn, verdict, margin}
-use Rattle.model.specs.Refusals.{good, refusal}
 use Rattle.theory.specs.Weaker.{Weaker}
 use Rattle.theory.specs.Eased.{Eased}
 use Rattle.theory.specs.Without.{oldNumber, without}
 use Rattle.theory.specs.Misses.{ScenarioOf, Missed}
 use Rattle.theory.specs.Signs.{negative, signed}
 use Rattle.theory.specs.Words.{Passes, JobOf, HiJobOf, RunOf, NoOverrun, JudgedFit, InTime, Alike}
-use Rattle.theory.proofs.Bools.{and-l, and-r}
-use Rattle.theory.proofs.Runs as Run
+use Rattle.laws.proofs.Bools.{and-l, and-r}
+use Rattle.laws.proofs.Runs as Run
 use Rattle.theory.proofs.Sound.{Ordered}
 use Rattle.theory.proofs.Ends.{within, limit-hi}
 use Rattle.theory.proofs.Scenarios.{lo-until, same-slot, turn-had, turn-before}
 use Rattle.theory.proofs.PhaseTwo.{unfinished-i}
 use Rattle.theory.proofs.Dominance.{dominates-lo, dominates-hi}
-use Rattle.theory.proofs.Outcomes.{Switches, switches, never-iff, outcome-cases, meets-e, ends-as}
-use Rattle.theory.proofs.Finishes.{finish-done, finish-before, finish-pos}
+use Rattle.theory.proofs.Outcomes.{switches, never-iff, outcome-cases, meets-e, ends-as}
+use Rattle.laws.proofs.Finishes.{finish-done, finish-before, finish-pos}
 use Rattle.theory.proofs.Verdicts.{unfit-is}
-use Rattle.theory.proofs.Fitness.{scenario-times, required-hi, required-lo, runs-meet, meet-fit}
+use Rattle.theory.proofs.Fitness.{scenario-times, required-hi, runs-meet, meet-fit}
 use Rattle.theory.proofs.Margins.{hi-switch, margin-late, margin-range, fit-margins}
 use Rattle.theory.proofs.Embeddings.{weaker-refl, eased-weaker, part-e}
 use Rattle.theory.proofs.Without.{without-weaker, both-weaker}

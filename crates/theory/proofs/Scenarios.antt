@@ -5,28 +5,28 @@
 --   agree, lo-until, same-slot, hi-at-turn   == until its turn scenario J is scenario 0; then the mode is HI
 --   lo-within, hi-within   == no time is above the largest budget
 -- Assumes nothing.
-use Prim.Native.Nat.{ℕ, zero, suc, _+_, _-_, _≤_, _<_}
+use Prim.Native.Nat.{ℕ, zero, suc, _+_, _≤_, _<_}
 use mathlib.Core.Path.{_≡_, refl, sym, _∙_, ap, subst}
-use mathlib.Core.Bool.{Bool, true, false, cond, not, _&&_, _||_}
+use mathlib.Core.Bool.{true, false, cond, not, _&&_, _||_}
 use mathlib.Core.List.{List}
 use mathlib.Core.Logic.{_⊎_, inl, inr, ⊎-elim}
 use native.Mathlib.Omega.{arith}
-use lib.Dec.{eqb, leb, ltb}
+use lib.Dec.{eqb, leb}
 use borrow.Author.Tests.{eqb-true, eqb-false, eq-eqb, ne-eqb, not-true}
-use Rattle.model.specs.declared.Level.the-variants.{Lo, Hi}
+use Rattle.model.specs.declared.Level.the-variants.{Lo}
 use Rattle.model.specs.declared.Scenario.the-variants.{Hi as HiOf}
-use Rattle.model.specs.Lists.{at, numbers, mem, first}
+use Rattle.model.specs.Lists.{first}
 use Rattle.model.specs.Sets.{Policy, View, isHi, critical, span}
-use Rattle.model.specs.Runs.{time, ready, stateAt, modeAt, slotAt, hadAt, doneAt, limit, finishOf}
+use Rattle.model.specs.Runs.{time, ready, stateAt, modeAt, slotAt, hadAt, doneAt, limit}
 use Rattle.model.specs.Scenarios.{places, loTimes, turn, hiTime, timesOf}
-use Rattle.theory.proofs.Bools.{tests, split, clash, not-i, and-l, and-r, and-i, and-no-l, or-cases, or-l, or-r}
-use Rattle.theory.proofs.Lists.{first-cong}
-use Rattle.theory.proofs.Sums.{at-numbers}
-use Rattle.theory.proofs.Places.{is-lo}
-use Rattle.theory.proofs.Runs as Run
+use Rattle.laws.proofs.Bools.{split, clash, not-i, and-l, and-r, and-i, or-cases, or-l, or-r}
+use Rattle.laws.proofs.Lists.{first-cong}
+use Rattle.laws.proofs.Sums.{at-numbers}
+use Rattle.laws.proofs.Places.{is-lo}
+use Rattle.laws.proofs.Runs as Run
 use Rattle.theory.proofs.Sound.{Ordered, Sound}
 use Rattle.theory.proofs.Ends.{within, limit-hi, by-span}
-use Rattle.theory.proofs.Finishes.{finish-done, finish-before, finish-none}
+use Rattle.laws.proofs.Finishes.{finish-done, finish-before, finish-none}
 
 pub place-time : (v : View) (f : ℕ → ℕ) (j : ℕ) → Ordered (v .policy) → v .policy .part j ≡ true → time (places v f) j ≡ f j
 unfolding time places

@@ -4,17 +4,16 @@
 --   fit-meets        == the verdict is fit exactly if every scenario meets what it requires
 --   unfit-is         == an unfit answer is true of its scenario
 -- Assumes nothing.
-use Prim.Native.Nat.{ℕ, zero, suc, _+_, _≤_, _<_}
+use Prim.Native.Nat.{ℕ, zero, suc, _<_}
 use mathlib.Core.Path.{_≡_, refl, sym, _∙_, ap, subst}
-use mathlib.Core.Bool.{Bool, true, false, cond, not, _&&_}
+use mathlib.Core.Bool.{Bool, true, false}
 use mathlib.Core.List.{List, [], _∷_, map}
 use mathlib.Core.Logic.{_⊎_, inl, inr, ⊎-elim, _↔_}
 use native.Mathlib.Omega.{arith}
-use lib.Dec.{eqb, leb, ltb}
-use borrow.Author.Tests.{eqb-true, eqb-false, eq-eqb, ne-eqb, not-true}
+use lib.Dec.{eqb}
+use borrow.Author.Tests.{eqb-true, eqb-false, not-true}
 use Rattle.model.specs.declared.Scenario.{Scenario}
 use Rattle.model.specs.declared.Scenario.the-variants.{Lo, Hi}
-use Rattle.model.specs.declared.Verdict.{Verdict}
 use Rattle.model.specs.declared.Verdict.the-variants.{Fit, Unfit}
 use Rattle.model.specs.declared.Miss.{Miss}
 use Rattle.model.specs.Lists.{from, numbers, only, first, any, mem}
@@ -22,10 +21,10 @@ use Rattle.model.specs.Sets.{Policy, View, members, critical}
 use Rattle.model.specs.Runs.{missed, meets}
 use Rattle.model.specs.Scenarios.{hiJobs, scenarios, timesOf, finishIn, lateIn, search, verdict}
 use Rattle.theory.specs.Misses.{ScenarioOf, Earlier, Missed}
-use Rattle.theory.proofs.Bools.{split, clash, not-i}
-use Rattle.theory.proofs.Lists.{mem-head, mem-tail, mem-cases, not-mem-nil, only-e, first-some, first-none, first-zero, any-none, any-no}
-use Rattle.theory.proofs.Sums.{mem-from}
-use Rattle.theory.proofs.Places.{Placed, members-i, members-e, members-nonzero}
+use Rattle.laws.proofs.Bools.{split, not-i}
+use Rattle.laws.proofs.Lists.{mem-head, mem-tail, mem-cases, not-mem-nil, only-e, first-some, first-none, first-zero, any-none, any-no}
+use Rattle.laws.proofs.Sums.{mem-from}
+use Rattle.laws.proofs.Places.{Placed, members-i, members-e, members-nonzero}
 use Rattle.theory.proofs.Checks.{hi-jobs-mem, hi-jobs-i}
 
 -- rising lists ------------------------------------------------------------------------------------------------------------------------

@@ -4,23 +4,22 @@
 --   in-time                                 == a finish by the deadline is InTime
 --   alike-view                              == sets that differ only beyond their counts have one view
 -- Assumes nothing.
-use Prim.Native.Nat.{ℕ, suc, _≤_}
-use mathlib.Core.Path.{_≡_, refl, sym, _∙_, ap, subst}
+use Prim.Native.Nat.{ℕ, _≤_}
+use mathlib.Core.Path.{_≡_, ap}
 use mathlib.Core.Bool.{true, _&&_}
 use lib.Dec.{leb}
 use mathlib.Core.List.{List}
 use native.Mathlib.Omega.{arith}
 use Rattle.model.specs.declared.Level.{Level}
 use Rattle.model.specs.declared.Level.the-variants.{Lo, Hi}
-use Rattle.model.specs.declared.Job.{Job}
 use Rattle.model.specs.declared.Set.{Set}
-use Rattle.model.specs.Lists.{at, cut}
-use Rattle.model.specs.Sets.{View, isHi, blank, jobAt, orderOf, countOf, view, critical, span}
-use Rattle.model.specs.Runs.{time, hadAt, finishOf, required, isRun}
-use Rattle.model.specs.Refusals.{good, isGood, refusal}
+use Rattle.model.specs.Lists.{at}
+use Rattle.model.specs.Sets.{isHi, blank, jobAt, orderOf, countOf, view, critical, span}
+use Rattle.model.specs.Runs.{finishOf, required}
+use Rattle.model.specs.Refusals.{good, isGood}
 use Rattle.theory.specs.Words.{Passes, JobOf, HiJobOf, RunOf, InTime, Alike}
-use Rattle.theory.proofs.Places.{is-hi}
-use Rattle.theory.proofs.Runs as Run
+use Rattle.laws.proofs.Places.{is-hi}
+use Rattle.laws.proofs.Runs as Run
 use Rattle.theory.proofs.Sound.{Sound}
 use Rattle.theory.proofs.Checks.{passes-sound, check-run}
 use Rattle.theory.proofs.Ends.{limit-hi}

@@ -22,10 +22,10 @@ use Rattle.theory.specs.Orders.{subsequence}
 use Rattle.theory.specs.Weaker.{Weaker}
 use Rattle.theory.specs.Eased.{Eased}
 use Rattle.theory.specs.Without.{kept, oldNumber, newNumber, closed, without}
-use Rattle.theory.proofs.Bools.{split}
-use Rattle.theory.proofs.Lists.{only-e}
-use Rattle.theory.proofs.Sums.{mem-from}
-use Rattle.theory.proofs.Places.{at-in}
+use Rattle.laws.proofs.Bools.{split}
+use Rattle.laws.proofs.Lists.{only-e}
+use Rattle.laws.proofs.Sums.{mem-from}
+use Rattle.laws.proofs.Places.{at-in}
 use Rattle.theory.proofs.Sound.{Ordered}
 use Rattle.theory.proofs.Counting.{getD-mem}
 use Rattle.theory.proofs.Embeddings.{sub-only, map-same, map-map, part-i, part-e, weaker-trans, eased-weaker}

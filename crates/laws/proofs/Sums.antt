@@ -2,17 +2,17 @@
 -- Assumes nothing.
 use Prim.Native.Nat.{ℕ, zero, suc, _+_, _-_, _≤_, _<_, max}
 use mathlib.Core.Path.{_≡_, refl, sym, _∙_, ap, subst}
-use mathlib.Core.Bool.{Bool, true, false, not, cond, _&&_, _||_, true≢false}
+use mathlib.Core.Bool.{Bool, true, not}
 use mathlib.Core.List.{List, [], _∷_, map}
-use mathlib.Core.Logic.{_⊎_, inl, inr, ⊎-elim}
+use mathlib.Core.Logic.{⊎-elim}
 use native.Mathlib.Omega.{arith}
-use lib.Dec.{eqb, leb, ltb}
-use lib.ListN.{getD, length}
-use borrow.Author.Tests.{eq-eqb, ne-eqb, eqb-true, eqb-false, not-true, lt-ltb, le-ltb, ltb-true, ltb-false}
+use lib.Dec.{eqb, ltb}
+use lib.ListN.{getD}
+use borrow.Author.Tests.{ne-eqb, eqb-true, eqb-false, not-true, ltb-true}
 use Rattle.model.specs.Lists.{at, from, numbers, only, mem, total, largest}
-use Rattle.theory.specs.Orders.{distinct}
-use Rattle.theory.proofs.Bools.{tests, split, clash, not-i, and-l, and-r, and-i}
-use Rattle.theory.proofs.Lists.{mem-head, mem-tail, mem-cases, not-mem-nil, only-i, only-e}
+use Rattle.laws.proofs.Lists.{distinct}
+use Rattle.laws.proofs.Bools.{tests, split, clash, not-i, and-l, and-r, and-i}
+use Rattle.laws.proofs.Lists.{mem-head, mem-tail, mem-cases, not-mem-nil, only-e}
 
 -- total ------------------------------------------------------------------------------------------------------------------------------
 

@@ -7,25 +7,22 @@
 -- Assumes nothing.
 use Prim.Native.Nat.{ℕ, zero, suc, _+_, _-_, _≤_, _<_}
 use mathlib.Core.Path.{_≡_, refl, sym, _∙_, ap, subst}
-use mathlib.Core.Bool.{Bool, true, false, not, cond, _&&_, _||_, true≢false}
-use mathlib.Core.List.{List, [], _∷_, map}
+use mathlib.Core.Bool.{true, false, not, cond, _&&_, _||_}
+use mathlib.Core.List.{List}
 use mathlib.Core.Logic.{_⊎_, inl, inr, ⊎-elim}
 use native.Mathlib.Omega.{arith}
 use native.Mathlib.Decide.{le-ind}
 use lib.Dec.{eqb, leb, ltb}
-use lib.ListN.{getD, length, set, length-set, length-map, length-replicate, getD-replicate, List·getD-eq-default}
-use lib.Seq.{getD-set-same, getD-set-other}
-use borrow.Author.Tests.{eq-eqb, ne-eqb, eqb-true, eqb-false, not-true, not-false, leb-true, le-leb, leb-false}
-use Rattle.model.specs.declared.Level.{Level}
-use Rattle.model.specs.declared.Level.the-variants.{Lo, Hi}
+use lib.ListN.{length, length-replicate, getD-replicate}
+use borrow.Author.Tests.{eq-eqb, ne-eqb, eqb-true, eqb-false, not-true, leb-true, le-leb}
 use Rattle.model.specs.declared.State.{State}
 use Rattle.model.specs.Lists.{at, from, numbers, first, any, mem}
 use Rattle.model.specs.Sets.{Policy, isHi, members, critical}
-use Rattle.model.specs.Runs.{time, start, overruns, modeNow, ready, pick, bump, account, step, stateAt, modeAt, slotAt, hadAt, doneAt}
-use Rattle.theory.proofs.Bools.{tests, split, clash, same, not-i, not-i-false, and-l, and-r, and-i, or-l, or-r, or-cases, or-no-l, or-no-r, or-i-no}
-use Rattle.theory.proofs.Lists.{any-i, any-e, any-no, only-i, only-e, first-some}
-use Rattle.theory.proofs.Sums.{at-numbers}
-use Rattle.theory.proofs.Places.{Placed, at-in, at-out, place, members-i, members-e, cond-hi, account-lengths, account-had, account-done, account-mode}
+use Rattle.model.specs.Runs.{time, start, overruns, modeNow, ready, pick, account, step, stateAt, modeAt, slotAt, hadAt, doneAt}
+use Rattle.laws.proofs.Bools.{tests, split, clash, same, not-i, and-l, and-r, and-i, or-l, or-r, or-cases}
+use Rattle.laws.proofs.Lists.{any-i, any-e, first-some}
+use Rattle.laws.proofs.Sums.{at-numbers}
+use Rattle.laws.proofs.Places.{Placed, at-in, at-out, place, members-i, members-e, cond-hi, account-lengths, account-had, account-done, account-mode}
 
 module _ (p : Policy) (c : List ℕ) where
   state-suc : (t : ℕ) → stateAt p c (suc t) ≡ account c (slotAt p c t) (modeAt p c t) (stateAt p c t)

@@ -3,20 +3,19 @@
 --   finish-done    == at its finish it has arrived and has had its time
 --   finish-before  == before its finish it has not;  finish-pos, finish-none: a time from 1 up
 -- Assumes nothing.
-use Prim.Native.Nat.{ℕ, zero, suc, _+_, _-_, _≤_, _<_}
-use mathlib.Core.Path.{_≡_, refl, sym, _∙_, ap, subst}
-use mathlib.Core.Bool.{Bool, true, false, _&&_}
+use Prim.Native.Nat.{ℕ, suc, _≤_, _<_}
+use mathlib.Core.Path.{_≡_, sym, _∙_, subst}
+use mathlib.Core.Bool.{true, _&&_}
 use mathlib.Core.List.{List}
 use native.Mathlib.Omega.{arith}
-use lib.Dec.{eqb, leb, ltb}
-use borrow.Author.Tests.{eqb-true, eqb-false, eq-eqb, ne-eqb, le-leb, leb-true}
-use Rattle.model.specs.Lists.{least}
+use lib.Dec.{eqb, leb}
+use borrow.Author.Tests.{eqb-true, eqb-false, eq-eqb, le-leb, leb-true}
 use Rattle.model.specs.Sets.{Policy}
 use Rattle.model.specs.Runs.{time, hadAt, doneAt, finishOf}
-use Rattle.theory.proofs.Bools.{tests, split, clash, and-l, and-r, and-i}
-use Rattle.theory.proofs.Lists.{least-before, least-passes, least-bound}
-use Rattle.theory.proofs.Places.{Placed}
-use Rattle.theory.proofs.Runs as Run
+use Rattle.laws.proofs.Bools.{tests, split, clash, and-l, and-r, and-i}
+use Rattle.laws.proofs.Lists.{least-before, least-passes, least-bound}
+use Rattle.laws.proofs.Places.{Placed}
+use Rattle.laws.proofs.Runs as Run
 
 module _ (p : Policy) (c : List ℕ) (room : Placed p) (n j : ℕ) (a : p .part j ≡ true) where
   pub finish-le : (t : ℕ) → t ≤ n → p .arrival j ≤ t → time c j ≤ hadAt p c t j → finishOf p c n j ≤ t

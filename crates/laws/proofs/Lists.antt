@@ -1,16 +1,17 @@
 -- Laws of the model's words on lists.
+--   any-.., mem-.., only-.., first-.., least-..  == what passes, who stands where
+--   distinct l        == no entry of l stands in it twice
 -- Assumes nothing.
-use Prim.Native.Nat.{ℕ, zero, suc, _+_, _-_, _≤_, _<_, max}
+use Prim.Native.Nat.{ℕ, zero, suc, _≤_, _<_}
 use mathlib.Core.Path.{_≡_, refl, sym, _∙_, ap, subst}
-use mathlib.Core.Bool.{Bool, true, false, not, cond, _&&_, _||_, true≢false}
-use mathlib.Core.List.{List, [], _∷_, map}
-use mathlib.Core.Logic.{_⊎_, inl, inr, _↔_, ⊎-elim}
+use mathlib.Core.Bool.{Bool, true, false, not, _&&_, true≢false}
+use mathlib.Core.List.{List, [], _∷_}
+use mathlib.Core.Logic.{_⊎_, inl, inr, ⊎-elim}
 use native.Mathlib.Omega.{arith}
 use lib.Dec.{eqb, leb, ltb}
-use lib.ListN.{getD, length}
-use borrow.Author.Tests.{eq-eqb, ne-eqb, eqb-true, eqb-false, lt-ltb, le-ltb, ltb-true, ltb-false}
-use Rattle.model.specs.Lists.{at, from, numbers, only, first, any, mem, least, total, largest}
-use Rattle.theory.proofs.Bools.{tests, split, clash, and-l, and-r, and-i, or-l, or-r, or-cases, or-no-l, or-no-r, or-i-no}
+use borrow.Author.Tests.{eq-eqb, not-true, eqb-true, eqb-false, ltb-true, ltb-false}
+use Rattle.model.specs.Lists.{at, only, first, any, mem, least}
+use Rattle.laws.proofs.Bools.{tests, split, clash, and-l, and-r, or-l, or-r, or-cases, or-no-l, or-no-r}
 
 -- any, mem ---------------------------------------------------------------------------------------------------------------------------
 
@@ -57,6 +58,18 @@ mem-cases j x l m = ⊎-elim (λ e. inl (eqb-true j x e)) (λ n. inr n) (or-case
 pub not-mem-nil {ℓ} : {P : Type ℓ} (j : ℕ) → mem j [] ≡ true → P
 unfolding any mem
 not-mem-nil j m = absurd (true≢false (sym m))
+
+unfoldable pub distinct : List ℕ → Bool
+distinct [] = true
+distinct (x ∷ l) = not (mem x l) && distinct l
+
+pub head-out : (x : ℕ) (l : List ℕ) → distinct (x ∷ l) ≡ true → mem x l ≡ false
+unfolding distinct
+head-out x l d = not-true (mem x l) (and-l (not (mem x l)) (distinct l) d)
+
+pub tail-distinct : (x : ℕ) (l : List ℕ) → distinct (x ∷ l) ≡ true → distinct l ≡ true
+unfolding distinct
+tail-distinct x l d = and-r (not (mem x l)) (distinct l) d
 
 -- only -------------------------------------------------------------------------------------------------------------------------------
 

@@ -4,28 +4,25 @@
 --   members-..       == who is a member takes part; none is one twice, and 0 is none
 --   account-..       == the parts of the state after a slot
 -- Assumes nothing.
-use Prim.Native.Nat.{ℕ, zero, suc, _+_, _-_, _≤_, _<_}
-use mathlib.Core.Path.{_≡_, refl, sym, _∙_, ap, subst}
-use mathlib.Core.Bool.{Bool, true, false, not, cond, _&&_, _||_, true≢false}
-use mathlib.Core.List.{List, [], _∷_, map}
-use mathlib.Core.Logic.{_⊎_, inl, inr, ⊎-elim}
+use Prim.Native.Nat.{ℕ, suc, _+_, _-_, _≤_, _<_}
+use mathlib.Core.Path.{_≡_, refl, sym, _∙_, ap}
+use mathlib.Core.Bool.{Bool, true, false, cond}
+use mathlib.Core.List.{List}
 use native.Mathlib.Omega.{arith}
-use native.Mathlib.Decide.{le-ind}
-use lib.Dec.{eqb, leb, ltb}
-use lib.ListN.{getD, length, set, length-set, length-map, length-replicate, getD-replicate, List·getD-eq-default}
+use lib.Dec.{eqb, leb}
+use lib.ListN.{getD, length, set, length-set, List·getD-eq-default}
 use lib.Seq.{getD-set-same, getD-set-other}
-use borrow.Author.Tests.{eq-eqb, ne-eqb, eqb-true, eqb-false, not-true, not-false, leb-true, le-leb, leb-false}
+use borrow.Author.Tests.{ne-eqb, eqb-true, eqb-false}
 use Rattle.model.specs.declared.Level.{Level}
 use Rattle.model.specs.declared.Level.the-variants.{Lo, Hi}
 use Rattle.model.specs.declared.State.{State}
-use Rattle.model.specs.Lists.{at, from, numbers, first, any, mem}
-use Rattle.model.specs.Sets.{Policy, isHi, members, critical}
-use Rattle.model.specs.Runs.{time, start, overruns, modeNow, ready, pick, bump, account, step, stateAt, modeAt, slotAt, hadAt, doneAt}
-use Rattle.theory.proofs.Bools.{tests, split, clash, same, not-i, not-i-false, and-l, and-r, and-i, or-l, or-r, or-cases, or-no-l, or-no-r, or-i-no}
-use Rattle.theory.proofs.Lists.{any-i, any-e, any-no, only-i, only-e, first-some}
-use Rattle.theory.specs.Orders.{distinct}
-use Rattle.theory.proofs.Sums.{from-mem, mem-from, from-distinct, only-distinct}
-use Rattle.theory.proofs.Orders.{first-before, before-mem}
+use Rattle.model.specs.Lists.{at, from, numbers, mem}
+use Rattle.model.specs.Sets.{Policy, isHi, members}
+use Rattle.model.specs.Runs.{time, bump, account}
+use Rattle.laws.proofs.Bools.{tests, split, clash}
+use Rattle.laws.proofs.Lists.{only-i, only-e}
+use Rattle.laws.proofs.Lists.{distinct}
+use Rattle.laws.proofs.Sums.{from-mem, mem-from, from-distinct, only-distinct}
 
 -- places ------------------------------------------------------------------------------------------------------------------------------
 

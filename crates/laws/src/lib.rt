@@ -1,0 +1,1 @@
+// No code: laws of the model's words stand in proofs/. Theory and every library cite them.
