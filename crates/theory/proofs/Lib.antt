@@ -18,4 +18,5 @@ pub mod Verdicts
 pub mod Fitness
 pub mod Margins
 pub mod Views
+pub mod AtP
 pub mod Results

@@ -3,10 +3,11 @@
 -- Assumes nothing.
 use Prim.Native.Nat.{ℕ, _≤_, _<_}
 use mathlib.Core.Path.{_≡_, refl, sym, _∙_, ap, subst}
-use mathlib.Core.Bool.{Bool, true, false}
-use mathlib.Core.List.{List}
+use mathlib.Core.Bool.{Bool, true, false, not}
+use mathlib.Core.List.{List, [], _∷_}
+use native.Mathlib.Omega.{arith}
 use mathlib.Core.Logic.{_⊎_, inl, inr, ⊎-elim, _↔_}
-use lib.Dec.{ltb}
+use lib.Dec.{eqb, ltb}
 use borrow.Author.Tests.{ltb-true}
 use Rattle.model.specs.declared.Set.{Set}
 use Rattle.model.specs.declared.Scenario.{Scenario}
@@ -14,7 +15,9 @@ use Rattle.model.specs.declared.Scenario.the-variants.{Hi}
 use Rattle.model.specs.declared.Switch.the-variants.{Never, At}
 use Rattle.model.specs.declared.Miss.{Miss}
 use Rattle.model.specs.declared.Verdict.the-variants.{Unfit}
-use Rattle.model.specs.Sets.{View, isHi, jobAt, view, span}
+use Rattle.model.specs.Lists.{at, cut}
+use Rattle.model.specs.Sets.{View, isHi, job, blank, set, jobAt, view, span}
+use Rattle.model.proofs.Table.{P, jobsOfP}
 use Rattle.model.specs.Runs.{time, modeAt, slotAt, hadAt, finished, dropped, mark, outcomeIn, switchIn, required, requiredAfter, late, missed, meets, limit}
 use Rattle.model.specs.Scenarios.{loTimes, turn, timesOf, finishIn, verdict, margin}
 use Rattle.theory.specs.Weaker.{Weaker}
@@ -38,6 +41,7 @@ use Rattle.theory.proofs.Margins.{hi-switch, margin-late, margin-range,
 use Rattle.theory.proofs.Embeddings.{weaker-refl, eased-weaker, part-e}
 use Rattle.theory.proofs.Without.{without-weaker, both-weaker}
 use Rattle.theory.proofs.Passes.{without-passes}
+use Rattle.theory.proofs.AtP.{P-passes, P-fit, P-run, P-no-overrun, P-eased, P-later}
 use Rattle.theory.proofs.Views.{sound-of, part-of, critical-of, job-of, run-of, run-is, in-time, alike-view}
 
 -- 1. A run ends -----------------------------------------------------------------------------------------------------------------------
@@ -246,3 +250,31 @@ dominance s′ s e h o k c r =
           let (j, b, q, x, by) = dominates-hi w v e k o sv c wc τ i m lo u in
           (j, job-of s j b q, by),
     )
+
+-- 8. Not vacuous ----------------------------------------------------------------------------------------------------------------------
+
+-- Set P of document 01 passes the checks, is judged fit and has runs. So in every run of it job 1 ends by 10 and job 2 by 6; and where job 1 runs for
+-- at most 2 and job 2 for 1, job 3 ends by 6.
+pub at-P : Passes (P 10) × JudgedFit (P 10) × RunOf (P 10) (4 ∷ 3 ∷ 2 ∷ [])
+    × ((c : List ℕ) → RunOf (P 10) c
+    → InTime (P 10) c 1 × InTime (P 10) c 2 × (time c 1 ≤ 2 → time c 2 ≤ 1 → InTime (P 10) c 3))
+unfolding P jobsOfP job blank set jobAt at cut
+at-P = (
+  P-passes,
+  P-fit,
+  P-run,
+  λ c r.
+      let (hi, all) = demand-three (P 10) P-passes P-fit c r in (
+        hi 1 ((omega arith, omega arith), refl),
+        hi 2 ((omega arith, omega arith), refl),
+        λ one two. all (P-no-overrun c one two) 3 (omega arith, omega arith),
+      ),
+)
+
+-- P stays fit with a later deadline for job 1, and without its LO job.
+pub P-stays-fit : JudgedFit (P 12) × JudgedFit (without (λ j. not (eqb j 3)) (P 10))
+unfolding P jobsOfP set
+P-stays-fit = (
+  stays-fit-eased (P 12) (P 10) P-passes P-later P-eased P-fit,
+  stays-fit-without (λ j. not (eqb j 3)) (P 10) P-passes 1 (omega arith, omega arith) refl P-fit .1,
+)
