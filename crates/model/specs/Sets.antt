@@ -5,7 +5,7 @@
 --   View          == a set as jobs 1 to N and two lists
 --   view s        == the view of the struct s, cut at its counts
 --   members p     == the jobs that take part
---   critical v j  == job j is a HI job
+--   critical p j  == job j is a HI job
 --   span v        == the span
 use Prim.Native.Nat.{ℕ, _+_, _-_}
 use mathlib.Core.Bool.{Bool, true, false, _&&_}
