@@ -18,7 +18,7 @@ use borrow.Author.Tests.{eq-eqb, ne-eqb, eqb-true, eqb-false, not-true, leb-true
 use Rattle.model.specs.declared.State.{State}
 use Rattle.model.specs.Lists.{at, from, numbers, first, any, mem}
 use Rattle.model.specs.Sets.{Policy, isHi, members, critical}
-use Rattle.model.specs.Runs.{time, start, overruns, modeNow, ready, pick, account, step, stateAt, modeAt, slotAt, hadAt, doneAt}
+use Rattle.model.specs.Runs.{time, start, overruns, modeNow, ready, pick, slotNow, account, step, stateAt, modeAt, slotAt, hadAt, doneAt}
 use Rattle.laws.proofs.Bools.{tests, split, clash, same, not-i, and-l, and-r, and-i, or-l, or-r, or-cases}
 use Rattle.laws.proofs.Lists.{any-i, any-e, first-some}
 use Rattle.laws.proofs.Sums.{at-numbers}
@@ -26,7 +26,7 @@ use Rattle.laws.proofs.Places.{Placed, at-in, at-out, place, members-i,
 
 module _ (p : Policy) (c : List ℕ) where
   state-suc : (t : ℕ) → stateAt p c (suc t) ≡ account c (slotAt p c t) (modeAt p c t) (stateAt p c t)
-  unfolding stateAt step slotAt modeAt
+  unfolding stateAt step slotAt slotNow modeAt
   state-suc t = refl
 
   lengths : (t : ℕ) → (length (stateAt p c t .had) ≡ 64) × (length (stateAt p c t .done) ≡ 64)
@@ -38,9 +38,9 @@ module _ (p : Policy) (c : List ℕ) where
 
   -- who gets a slot is ready in the present mode's order
   slot-some : (t : ℕ) → (slotAt p c t ≡ 0 → ⊥)
-      → (mem (slotAt p c t) (p .order (modeAt p c t)) ≡ true) × (ready p (stateAt p c t .done) t (slotAt p c t) ≡ true)
-  unfolding slotAt modeAt pick
-  slot-some t h = first-some (ready p (stateAt p c t .done) t) (p .order (modeAt p c t)) h
+      → (mem (slotAt p c t) (p .order (modeAt p c t)) ≡ true) × (ready (p .arrival) (stateAt p c t .done) t (slotAt p c t) ≡ true)
+  unfolding slotAt slotNow modeAt pick
+  slot-some t h = first-some (ready (p .arrival) (stateAt p c t .done) t) (p .order (modeAt p c t)) h
 
   slot-room : (t : ℕ) → slotAt p c t ≤ 64
   unfolding ready
@@ -137,12 +137,12 @@ module _ (p : Policy) (c : List ℕ) where
     unfolding Known
     had-le t j a = known t j (room j a .0) .0 a .1
 
-    pub ready-i : (t j : ℕ) → p .part j ≡ true → p .arrival j ≤ t → hadAt p c t j < time c j → ready p (stateAt p c t .done) t j ≡ true
+    pub ready-i : (t j : ℕ) → p .part j ≡ true → p .arrival j ≤ t → hadAt p c t j < time c j → ready (p .arrival) (stateAt p c t .done) t j ≡ true
     unfolding ready doneAt
     ready-i t j a r h =
         and-i (le-leb (p .arrival j) t r) (not-i (done-is t j a ∙ ne-eqb (hadAt p c t j) (time c j) (omega arith)))
 
-    pub ready-no : (t j : ℕ) → p .part j ≡ true → p .arrival j ≤ t → ready p (stateAt p c t .done) t j ≡ false → time c j ≤ hadAt p c t j
+    pub ready-no : (t j : ℕ) → p .part j ≡ true → p .arrival j ≤ t → ready (p .arrival) (stateAt p c t .done) t j ≡ false → time c j ≤ hadAt p c t j
     ready-no t j a r h =
         split (ltb (hadAt p c t j) (time c j)) (λ q. clash (ready-i t j a r (omega (tests, q))) h) (λ q. omega (tests, q))
 
@@ -162,8 +162,8 @@ module _ (p : Policy) (c : List ℕ) where
           subst (λ i. mem i (p .order (modeAt p c t)) ≡ true) e (r .0),
         )
 
-    pub slot-is : (t : ℕ) → slotAt p c t ≡ first (ready p (stateAt p c t .done) t) (p .order (modeAt p c t))
-    unfolding slotAt modeAt pick
+    pub slot-is : (t : ℕ) → slotAt p c t ≡ first (ready (p .arrival) (stateAt p c t .done) t) (p .order (modeAt p c t))
+    unfolding slotAt slotNow modeAt pick
     slot-is t = refl
 
     -- slots had only grow, by at most one

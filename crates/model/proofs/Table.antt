@@ -36,7 +36,8 @@ use Rattle.model.specs.declared.Judgement.{Judgement}
 use Rattle.model.specs.declared.Judgement.the-variants.{Refused, Found}
 use Rattle.model.specs.Lists.{at, from, numbers, only, first, any, mem, least, total, largest, cut}
 use Rattle.model.specs.Sets.{isHi, job, blank, set, jobAt, orderOf, countOf, view, members, critical, span}
-use Rattle.model.specs.Runs.{time, start, overruns, modeNow, ready, pick, bump, account, step, stateAt, modeAt, slotAt, hadAt, doneAt}
+use Rattle.model.specs.Runs.{time, start, overruns, modeNow, ready, pick, slotNow, bump, account, step, stateAt, modeAt, slotAt}
+use Rattle.model.specs.Runs.{hadAt, doneAt}
 use Rattle.model.specs.Runs.{finishOf, switchOf, droppedBy, Outcome, finished, dropped, outcome, mark, requiredAfter, outcomeIn}
 use Rattle.model.specs.Runs.{switchIn, required, late, missed, meets, limit, inRange, isRun}
 use Rattle.model.specs.Scenarios.{places, zeros, hiJobs, scenarios, loTimes, turn, hiTime, timesOf, finishIn, lateIn, search, verdict}
@@ -134,7 +135,7 @@ unfolding
     filled padded room answer scenario unfit
     at from numbers only first any mem least total largest cut
     isHi job blank set jobAt orderOf countOf view members critical span
-    time start overruns modeNow ready pick bump account step stateAt modeAt slotAt hadAt doneAt finishOf switchOf droppedBy outcome mark
+    time start overruns modeNow ready pick slotNow bump account step stateAt modeAt slotAt hadAt doneAt finishOf switchOf droppedBy outcome mark
     requiredAfter outcomeIn switchIn required late missed meets limit inRange isRun
     places zeros hiJobs scenarios loTimes turn hiTime timesOf finishIn lateIn search verdict timesBeside row hiRow rows worst margin
     tableOf loSlot loTable enabled hiPick hiHadAt hiSlot hiTable part

@@ -1,7 +1,8 @@
 -- Document 01, "One run". A run is a policy p and its running times c, a list with a place for each job.
 --   time c j          == the running time of job j
 --   modeNow p s       == rule 1: the mode at an instant, from the state s that the run has reached
---   pick p m d t      == rule 3: who gets slot t in mode m, where d says who is done; 0 for idle
+--   pick l a d t      == rule 3: who gets slot t by the order l, where a gives the arrivals and d says who is done; 0 for idle
+--   slotNow p s t     == so who gets slot t from the state s
 --   account c j m s   == the state after a slot of job j in mode m
 --   stateAt p c t     == the state at instant t, before rule 1;  modeAt, slotAt, hadAt, doneAt: what it says
 --   outcome p c n j   == what became of job j, looking at the instants up to n;  mark: the number that the paper writes for it
@@ -43,11 +44,14 @@ modeNow p s = cond (isHi (s .mode) || any (overruns p s) (members p)) Hi Lo
 
 -- "Of the jobs that have arrived, are unfinished and not dropped, the highest in the order of the present mode gets the slot. If there is
 -- none, the slot is idle." In HI mode every unfinished LO job is dropped: the HI order names none. An entry that names no job is done.
-unfoldable pub ready : Policy → List Bool → ℕ → ℕ → Bool
-ready p d t j = leb (p .arrival j) t && not (at d j true)
+unfoldable pub ready : (ℕ → ℕ) → List Bool → ℕ → ℕ → Bool
+ready a d t j = leb (a j) t && not (at d j true)
 
-unfoldable pub pick : Policy → Level → List Bool → ℕ → ℕ
-pick p m d t = first (ready p d t) (p .order m)
+unfoldable pub pick : List ℕ → (ℕ → ℕ) → List Bool → ℕ → ℕ
+pick l a d t = first (ready a d t) l
+
+unfoldable pub slotNow : Policy → State → ℕ → ℕ
+slotNow p s t = pick (p .order (modeNow p s)) (p .arrival) (s .done) t
 
 -- one more for job j
 unfoldable pub bump : List ℕ → ℕ → List ℕ
@@ -65,7 +69,7 @@ account c j m s =
     })
 
 unfoldable pub step : Policy → List ℕ → ℕ → State → State
-step p c t s = let m = modeNow p s in account c (pick p m (s .done) t) m s
+step p c t s = account c (slotNow p s t) (modeNow p s) s
 
 -- "Time goes in slots; slot t lies between instants t and t+1."
 unfoldable pub stateAt : Policy → List ℕ → ℕ → State
@@ -76,7 +80,7 @@ unfoldable pub modeAt : Policy → List ℕ → ℕ → Level
 modeAt p c t = modeNow p (stateAt p c t)
 
 unfoldable pub slotAt : Policy → List ℕ → ℕ → ℕ
-slotAt p c t = let s = stateAt p c t in pick p (modeNow p s) (s .done) t
+slotAt p c t = slotNow p (stateAt p c t) t
 
 unfoldable pub hadAt : Policy → List ℕ → ℕ → ℕ → ℕ
 hadAt p c t j = at (stateAt p c t .had) j 0

@@ -13,7 +13,7 @@ use borrow.Author.Tests.{eqb-true, eqb-false}
 use Rattle.model.specs.declared.Level.the-variants.{Hi}
 use Rattle.model.specs.Lists.{at, from, numbers, only, first, any, mem, least, total, largest, cut}
 use Rattle.model.specs.Sets.{isHi, job, blank, set, jobAt, orderOf, countOf, view, members, critical, span}
-use Rattle.model.specs.Runs.{time, start, overruns, modeNow, ready, pick, bump, account, step, stateAt, modeAt, slotAt, doneAt}
+use Rattle.model.specs.Runs.{time, start, overruns, modeNow, ready, pick, slotNow, bump, account, step, stateAt, modeAt, slotAt, doneAt}
 use Rattle.model.specs.Runs.{finishOf, switchOf, droppedBy, outcome, mark, requiredAfter, outcomeIn, switchIn, required, late, missed}
 use Rattle.model.specs.Runs.{limit, inRange, isRun}
 use Rattle.model.specs.Scenarios.{places, hiJobs, scenarios, loTimes, turn, hiTime, timesOf, finishIn, lateIn, search, verdict}
@@ -34,7 +34,7 @@ P-passes = refl
 pub P-fit : JudgedFit (P 10)
 unfolding
     P jobsOfP at from numbers only first any mem least total largest cut isHi job blank set jobAt orderOf countOf view members critical span
-    time start overruns modeNow ready pick bump account step stateAt modeAt slotAt doneAt finishOf switchOf droppedBy outcome mark requiredAfter
+    time start overruns modeNow ready pick slotNow bump account step stateAt modeAt slotAt doneAt finishOf switchOf droppedBy outcome mark requiredAfter
     outcomeIn switchIn required late missed places hiJobs scenarios loTimes turn hiTime timesOf finishIn lateIn search verdict
 P-fit = refl
 

@@ -59,7 +59,7 @@ module _ (p : Policy) (o : Ordered p) where
 
     pub no-idle : (t j : ℕ) → p .part j ≡ true → Kept t j → p .arrival j ≤ t → hadAt p c t j < time c j → slotAt p c t ≡ 0 → ⊥
     no-idle t j a k r h e =
-        first-not-zero (ready p (stateAt p c t .done) t) (p .order (modeAt p c t)) j (no-zero (modeAt p c t)) (named t j a k)
+        first-not-zero (ready (p .arrival) (stateAt p c t .done) t) (p .order (modeAt p c t)) j (no-zero (modeAt p c t)) (named t j a k)
         (Run.ready-i p c (o .room) t j a r h)
         (sym (Run.slot-is p c (o .room) t) ∙ e)
 

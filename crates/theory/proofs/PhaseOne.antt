@@ -53,7 +53,7 @@ module _ (w v : View) (e : ℕ → ℕ) (k : Weaker e w v) (ow : Ordered (w .pol
       let jb : before (p .order Lo) j i ≡ true =
       subst (λ m. before (p .order m) j i ≡ true) lo-c
       (subst (λ x. before (p .order (modeAt p c t)) x i ≡ true) (sym is-c)
-      (first-before (ready p (stateAt p c t .done) t) (p .order (modeAt p c t)) i
+      (first-before (ready (p .arrival) (stateAt p c t .done) t) (p .order (modeAt p c t)) i
       (subst (λ m. mem i (p .order m) ≡ true) (sym lo-c) (ow .loNames i a))
       (Run.ready-i p c (ow .room) t i a arrived h))) in
       let eb : before (q .order Lo) (e j) (e i) ≡ true =
@@ -61,8 +61,8 @@ module _ (w v : View) (e : ℕ → ℕ) (k : Weaker e w v) (ow : Ordered (w .pol
       let ne : e j ≡ e i → ⊥ =
       λ z. sc (embed-one e (p .order Lo) (q .order Lo) (ov .loOnce) (k .loOrder) j i (ow .loNames j (sj .0)) (ow .loNames i a) z) in
       let first-is = sym is-d ∙ sd in
-      let unready : ready q (stateAt q d t .done) t (e j) ≡ false =
-      first-fails (ready q (stateAt q d t .done) t) (q .order (modeAt q d t)) (e j) (λ z. omega (arith, z, first-is, onei))
+      let unready : ready (q .arrival) (stateAt q d t .done) t (e j) ≡ false =
+      first-fails (ready (q .arrival) (stateAt q d t .done) t) (q .order (modeAt q d t)) (e j) (λ z. omega (arith, z, first-is, onei))
       (subst (λ m. before (q .order (modeAt q d t)) (e j) m ≡ true) (sym first-is)
       (subst (λ m. before (q .order m) (e j) (e i) ≡ true) (sym lo-d) eb))
       (λ z. ne (z ∙ first-is)) in

@@ -202,7 +202,7 @@ module _ (w v : View) (e : ℕ → ℕ) (k : Weaker e w v) (ow : Ordered (w .pol
       let ji : before (p .order Hi) j i ≡ true =
       subst (λ m. before (p .order m) j i ≡ true) hi
       (subst (λ x. before (p .order (modeAt p c t)) x i ≡ true) (sym (Run.slot-is p c (ow .room) t))
-      (first-before (ready p (stateAt p c t .done) t) (p .order (modeAt p c t)) i
+      (first-before (ready (p .arrival) (stateAt p c t .done) t) (p .order (modeAt p c t)) i
       (subst (λ m. mem i (p .order m) ≡ true) (sym hi) (named-W i h))
       (Run.ready-i p c (ow .room) t i (un .0) r less))) in
       clash (and-i ju (before-trans (p .order Hi) j i B ji (before-W i h))) n)
@@ -264,8 +264,8 @@ module _ (w v : View) (e : ℕ → ℕ) (k : Weaker e w v) (ow : Ordered (w .pol
       (embed-one e (p .order Hi) (o .order Hi) (ov .hiOnce) (k .hiOrder) i B (named-W i h) named y) in
       let eb : before (o .order Hi) (e i) (e B) ≡ true =
       embed-before e (p .order Hi) (o .order Hi) (ov .hiOnce) (k .hiOrder) i B named (before-W i h) in
-      let unready : ready o (stateAt o d f .done) f (e i) ≡ false =
-      first-fails (ready o (stateAt o d f .done) f) (o .order (modeAt o d f)) (e i)
+      let unready : ready (o .arrival) (stateAt o d f .done) f (e i) ≡ false =
+      first-fails (ready (o .arrival) (stateAt o d f .done) f) (o .order (modeAt o d f)) (e i)
       (λ y. omega (arith, y, first-is, one-W B hB .1))
       (subst (λ x. before (o .order (modeAt o d f)) (e i) x ≡ true) (sym first-is)
       (subst (λ x. before (o .order x) (e i) (e B) ≡ true) (sym m) eb))

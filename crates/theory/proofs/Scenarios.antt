@@ -165,8 +165,8 @@ module _ (v : View) (s : Sound v) where
         let md : modeAt p d t ≡ Lo = is-lo (modeAt p d t) m in
         let m₀ : modeAt p (loTimes v) t ≡ Lo = is-lo (modeAt p (loTimes v) t) (lo-stays t) in
         Run.slot-is p d r t
-        ∙ ap (λ n. first (ready p (stateAt p d t .done) t) (p .order n)) md
-        ∙ first-cong (ready p (stateAt p d t .done) t) (ready p (stateAt p (loTimes v) t .done) t) (p .order Lo)
+        ∙ ap (λ n. first (ready (p .arrival) (stateAt p d t .done) t) (p .order n)) md
+        ∙ first-cong (ready (p .arrival) (stateAt p d t .done) t) (ready (p .arrival) (stateAt p (loTimes v) t .done) t) (p .order Lo)
         (λ j mj.
         let b : p .part j ≡ true = s .ordered .loOnly j mj in
         let same-done : eqb (hadAt p d t j) (time d j) ≡ eqb (hadAt p (loTimes v) t j) (time (loTimes v) j) =
@@ -177,7 +177,7 @@ module _ (v : View) (s : Sound v) where
         ∙ sym (ne-eqb (hadAt p (loTimes v) t j) (time (loTimes v) j) (omega (arith, lo-time j b, u .2 t q))))
         (raised j b) in
         ap (λ x. leb (p .arrival j) t && not x) (Run.done-is p d r t j b ∙ same-done ∙ sym (Run.done-is p (loTimes v) r t j b)))
-        ∙ ap (λ n. first (ready p (stateAt p (loTimes v) t .done) t) (p .order n)) (sym m₀)
+        ∙ ap (λ n. first (ready (p .arrival) (stateAt p (loTimes v) t .done) t) (p .order n)) (sym m₀)
         ∙ sym (Run.slot-is p (loTimes v) r t)
 
     together : (t : ℕ) → t ≤ turn v J → Agree t × (t < turn v J → isHi (modeAt (v .policy) (timesOf v (HiOf J)) t) ≡ false)
