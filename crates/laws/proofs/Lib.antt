@@ -2,6 +2,10 @@
 pub mod Bools
 pub mod Lists
 pub mod Sums
+pub mod Pigeonhole
 pub mod Places
 pub mod Runs
 pub mod Finishes
+pub mod Sound
+pub mod Checks
+pub mod Ends

@@ -118,6 +118,10 @@ first-none test (x ∷ l) j z e m =
     (λ n. first-none test l j (or-no-r (eqb 0 x) (mem 0 l) z) (rw f at e) n)
     (mem-cases j x l m))
 
+-- the first is a job, where no entry is 0
+pub first-not-zero : (test : ℕ → Bool) (l : List ℕ) (i : ℕ) → mem 0 l ≡ false → mem i l ≡ true → test i ≡ true → first test l ≡ 0 → ⊥
+first-not-zero test l i z m h e = true≢false (sym h ∙ first-none test l i z e m)
+
 pub first-zero : (test : ℕ → Bool) (l : List ℕ) → ((j : ℕ) → mem j l ≡ true → test j ≡ false) → first test l ≡ 0
 unfolding first
 first-zero test [] h = refl

@@ -25,7 +25,7 @@ use Rattle.laws.proofs.Sums.{total-le, largest-le}
 use Rattle.laws.proofs.Lists.{head-out, tail-distinct}
 use Rattle.theory.proofs.Orders.{embed-one}
 use Rattle.laws.proofs.Places.{members-i, members-e, members-distinct}
-use Rattle.theory.proofs.Sound.{Ordered}
+use Rattle.laws.proofs.Sound.{Ordered}
 
 -- sums ---------------------------------------------------------------------------------------------------------------------------------
 

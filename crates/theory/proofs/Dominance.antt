@@ -21,8 +21,8 @@ use Rattle.laws.proofs.Bools.{tests, split, clash, and-l, and-r, and-i}
 use Rattle.laws.proofs.Lists.{any-i, any-e, any-no, least-before, least-passes, least-bound}
 use Rattle.laws.proofs.Places.{members-i}
 use Rattle.laws.proofs.Runs as Run
-use Rattle.theory.proofs.Sound.{Ordered, Sound}
-use Rattle.theory.proofs.Ends.{within, limit-lo}
+use Rattle.laws.proofs.Sound.{Ordered, Sound}
+use Rattle.laws.proofs.Ends.{within, limit-lo}
 use Rattle.laws.proofs.Finishes.{finish-none}
 use Rattle.theory.proofs.PhaseOne.{ahead}
 use Rattle.theory.proofs.PhaseTwo.{unfinished, unfinished-e, end}

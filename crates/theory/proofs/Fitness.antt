@@ -24,9 +24,9 @@ use Rattle.theory.specs.Weaker.{Weaker}
 use Rattle.theory.specs.Misses.{ScenarioOf}
 use Rattle.laws.proofs.Bools.{tests, split, clash}
 use Rattle.laws.proofs.Runs as Run
-use Rattle.theory.proofs.Sound.{Ordered, Sound}
-use Rattle.theory.proofs.Ends.{within, Bounded, limit-hi}
-use Rattle.theory.proofs.Checks.{check-run}
+use Rattle.laws.proofs.Sound.{Ordered, Sound}
+use Rattle.laws.proofs.Ends.{within, Bounded, limit-hi}
+use Rattle.laws.proofs.Checks.{check-run}
 use Rattle.theory.proofs.Scenarios.{lo-time, lo-within, lo-stays, hi-least, hi-within}
 use Rattle.theory.proofs.PhaseTwo.{unfinished-i}
 use Rattle.theory.proofs.Dominance.{dominates-lo, dominates-hi}

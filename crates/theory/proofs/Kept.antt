@@ -23,9 +23,9 @@ use Rattle.laws.proofs.Lists.{only-i, only-e}
 use Rattle.laws.proofs.Sums.{from-distinct, only-distinct}
 use Rattle.theory.proofs.Orders.{map-mem}
 use Rattle.laws.proofs.Places.{Placed, at-in, at-out}
-use Rattle.theory.proofs.Sound.{Ordered, Sound}
+use Rattle.laws.proofs.Sound.{Ordered, Sound}
 use Rattle.theory.proofs.Counting.{map-e, map-distinct, getD-one, weaker-span}
-use Rattle.theory.proofs.Pigeonhole.{length-from, only-most}
+use Rattle.laws.proofs.Pigeonhole.{length-from, only-most}
 use Rattle.theory.proofs.Embeddings.{part-i, part-e}
 use Rattle.theory.proofs.Without.{at-mem, without-count, without-job, without-lo, without-hi, old-part, old-new, without-weaker}
 

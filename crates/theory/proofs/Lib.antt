@@ -1,14 +1,10 @@
 -- What follows from the meaning of document 01. A reader wants Results; the other files lead to it.
-pub mod Pigeonhole
 pub mod Orders
-pub mod Sound
-pub mod Checks
 pub mod Counting
 pub mod Embeddings
 pub mod Without
 pub mod Kept
 pub mod Passes
-pub mod Ends
 pub mod PhaseOne
 pub mod Scenarios
 pub mod PhaseTwo

@@ -32,8 +32,8 @@ use Rattle.laws.proofs.Lists.{mem-head, mem-tail}
 use Rattle.laws.proofs.Sums.{largest-le, from-mem}
 use Rattle.laws.proofs.Places.{at-in, at-out}
 use Rattle.laws.proofs.Runs as Run
-use Rattle.theory.proofs.Sound.{Sound}
-use Rattle.theory.proofs.Ends.{limit-hi}
+use Rattle.laws.proofs.Sound.{Sound}
+use Rattle.laws.proofs.Ends.{limit-hi}
 use Rattle.laws.proofs.Finishes.{finish-none}
 use Rattle.theory.proofs.Scenarios.{place-time, lo-time, lo-stays, lo-until, agree, hi-time, hi-at-turn}
 use Rattle.theory.proofs.Outcomes.{switches, ends-as, ends-span, ends-pos, ends-by, ends-done, meets-e, meets-i}

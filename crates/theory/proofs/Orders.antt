@@ -92,11 +92,6 @@ first-before test (x ∷ l) i m h =
     (and-i (not-i (ne-eqb i x ne))
     (first-before test l i (⊎-elim (λ e. absurd (ne e)) (λ n. n) (mem-cases i x l m)) h))))
 
--- the first is a job, where no entry is 0
-pub first-not-zero : (test : ℕ → Bool) (l : List ℕ) (i : ℕ) → mem 0 l ≡ false → mem i l ≡ true → test i ≡ true → first test l ≡ 0 → ⊥
-first-not-zero test l i z m h e =
-    clash (subst (λ k. mem k l ≡ true) e (before-mem l (first test l) i (first-before test l i m h))) z
-
 -- embeddings of orders ---------------------------------------------------------------------------------------------------------------
 
 pub sub-cons : (x y : ℕ) (l m : List ℕ) → subsequence (x ∷ l) (y ∷ m) ≡ true

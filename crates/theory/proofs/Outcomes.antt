@@ -23,8 +23,8 @@ use Rattle.laws.proofs.Bools.{tests, split, clash, not-i, and-i, and-no-l, and-
 use Rattle.laws.proofs.Lists.{any-none, any-no, least-le, least-before, least-passes}
 use Rattle.laws.proofs.Places.{members-i, members-e}
 use Rattle.laws.proofs.Runs as Run
-use Rattle.theory.proofs.Sound.{Ordered}
-use Rattle.theory.proofs.Ends.{within, Bounded, Kept, by-span}
+use Rattle.laws.proofs.Sound.{Ordered}
+use Rattle.laws.proofs.Ends.{within, Bounded, Kept, by-span}
 use Rattle.laws.proofs.Finishes.{finish-done, finish-pos, finish-none}
 use Rattle.theory.proofs.Scenarios.{lo-always}
 

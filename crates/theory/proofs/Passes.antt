@@ -22,9 +22,9 @@ use Rattle.laws.proofs.Lists.{mem-head, mem-tail, only-i, only-e, first-zero}
 use Rattle.laws.proofs.Sums.{from-mem, mem-from, from-distinct, only-distinct}
 use Rattle.laws.proofs.Lists.{head-out, tail-distinct}
 use Rattle.laws.proofs.Places.{members-i, members-e, members-distinct}
-use Rattle.theory.proofs.Sound.{Ordered, Sound}
+use Rattle.laws.proofs.Sound.{Ordered, Sound}
 use Rattle.theory.proofs.Counting.{same-length}
-use Rattle.theory.proofs.Pigeonhole.{length-from, length-cut}
+use Rattle.laws.proofs.Pigeonhole.{length-from, length-cut}
 use Rattle.theory.proofs.Embeddings.{part-i, part-e}
 use Rattle.theory.proofs.Kept.{new-part, without-sound}
 

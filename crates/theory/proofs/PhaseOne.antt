@@ -21,8 +21,8 @@ use Rattle.laws.proofs.Bools.{split}
 use Rattle.theory.proofs.Orders.{before, first-before, first-fails, embed-before, embed-one}
 use Rattle.laws.proofs.Places.{is-lo}
 use Rattle.laws.proofs.Runs as Run
-use Rattle.theory.proofs.Sound.{Ordered}
-use Rattle.theory.proofs.Ends.{no-idle}
+use Rattle.laws.proofs.Sound.{Ordered}
+use Rattle.laws.proofs.Ends.{no-idle}
 
 module _ (w v : View) (e : ℕ → ℕ) (k : Weaker e w v) (ow : Ordered (w .policy)) (ov : Ordered (v .policy)) (c d : List ℕ)
     (low : (i : ℕ) → w .policy .part i ≡ true → critical (w .policy) i ≡ false → time c i ≤ w .policy .lo i)

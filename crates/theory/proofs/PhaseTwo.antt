@@ -27,8 +27,8 @@ use Rattle.laws.proofs.Sums.{total-le, total-lt, total-eq, total-one}
 use Rattle.theory.proofs.Orders.{before, before-self, before-mem, before-trans, first-before, first-fails, embed-before, embed-one}
 use Rattle.laws.proofs.Places.{members-i, members-distinct, members-nonzero, is-hi}
 use Rattle.laws.proofs.Runs as Run
-use Rattle.theory.proofs.Sound.{Ordered}
-use Rattle.theory.proofs.Ends.{no-idle}
+use Rattle.laws.proofs.Sound.{Ordered}
+use Rattle.laws.proofs.Ends.{no-idle}
 
 -- i is a HI job of p, unfinished in the run c at τ
 unfoldable pub unfinished : Policy → List ℕ → ℕ → ℕ → Bool

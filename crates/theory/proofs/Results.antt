@@ -28,8 +28,8 @@ use Rattle.theory.specs.Signs.{negative, signed}
 use Rattle.theory.specs.Words.{Passes, JobOf, HiJobOf, RunOf, NoOverrun, JudgedFit, InTime, Alike}
 use Rattle.laws.proofs.Bools.{and-l, and-r}
 use Rattle.laws.proofs.Runs as Run
-use Rattle.theory.proofs.Sound.{Ordered}
-use Rattle.theory.proofs.Ends.{within, limit-hi}
+use Rattle.laws.proofs.Sound.{Ordered}
+use Rattle.laws.proofs.Ends.{within, limit-hi}
 use Rattle.theory.proofs.Scenarios.{lo-until, same-slot, turn-had, turn-before}
 use Rattle.theory.proofs.PhaseTwo.{unfinished-i}
 use Rattle.theory.proofs.Dominance.{dominates-lo, dominates-hi}

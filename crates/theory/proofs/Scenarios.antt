@@ -24,8 +24,8 @@ use Rattle.laws.proofs.Lists.{first-cong}
 use Rattle.laws.proofs.Sums.{at-numbers}
 use Rattle.laws.proofs.Places.{is-lo}
 use Rattle.laws.proofs.Runs as Run
-use Rattle.theory.proofs.Sound.{Ordered, Sound}
-use Rattle.theory.proofs.Ends.{within, limit-hi, by-span}
+use Rattle.laws.proofs.Sound.{Ordered, Sound}
+use Rattle.laws.proofs.Ends.{within, limit-hi, by-span}
 use Rattle.laws.proofs.Finishes.{finish-done, finish-before, finish-none}
 
 pub place-time : (v : View) (f : ℕ → ℕ) (j : ℕ) → Ordered (v .policy) → v .policy .part j ≡ true → time (places v f) j ≡ f j

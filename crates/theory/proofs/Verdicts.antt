@@ -25,7 +25,7 @@ use Rattle.laws.proofs.Bools.{split, not-i}
 use Rattle.laws.proofs.Lists.{mem-head, mem-tail, mem-cases, not-mem-nil, only-e, first-some, first-none, first-zero, any-none, any-no}
 use Rattle.laws.proofs.Sums.{mem-from}
 use Rattle.laws.proofs.Places.{Placed, members-i, members-e, members-nonzero}
-use Rattle.theory.proofs.Checks.{hi-jobs-mem, hi-jobs-i}
+use Rattle.laws.proofs.Checks.{hi-jobs-mem, hi-jobs-i}
 
 -- rising lists ------------------------------------------------------------------------------------------------------------------------
 

@@ -20,9 +20,9 @@ use Rattle.model.specs.Refusals.{good, isGood}
 use Rattle.theory.specs.Words.{Passes, JobOf, HiJobOf, RunOf, InTime, Alike}
 use Rattle.laws.proofs.Places.{is-hi}
 use Rattle.laws.proofs.Runs as Run
-use Rattle.theory.proofs.Sound.{Sound}
-use Rattle.theory.proofs.Checks.{passes-sound, check-run}
-use Rattle.theory.proofs.Ends.{limit-hi}
+use Rattle.laws.proofs.Sound.{Sound}
+use Rattle.laws.proofs.Checks.{passes-sound, check-run}
+use Rattle.laws.proofs.Ends.{limit-hi}
 use Rattle.theory.proofs.Embeddings.{part-i, part-e}
 use Rattle.theory.proofs.Outcomes.{Times, ends-as, ends-done}
 

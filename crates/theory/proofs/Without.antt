@@ -26,7 +26,7 @@ use Rattle.laws.proofs.Bools.{split}
 use Rattle.laws.proofs.Lists.{only-e}
 use Rattle.laws.proofs.Sums.{mem-from}
 use Rattle.laws.proofs.Places.{at-in}
-use Rattle.theory.proofs.Sound.{Ordered}
+use Rattle.laws.proofs.Sound.{Ordered}
 use Rattle.theory.proofs.Counting.{getD-mem}
 use Rattle.theory.proofs.Embeddings.{sub-only, map-same, map-map, part-i, part-e, weaker-trans, eased-weaker}
 

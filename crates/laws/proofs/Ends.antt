@@ -18,12 +18,12 @@ use Rattle.model.specs.declared.Level.the-variants.{Lo, Hi}
 use Rattle.model.specs.Lists.{mem, total, largest}
 use Rattle.model.specs.Sets.{Policy, View, isHi, members, critical, span}
 use Rattle.model.specs.Runs.{time, ready, stateAt, modeAt, slotAt, hadAt, limit}
 use Rattle.laws.proofs.Bools.{tests, split, clash}
 use Rattle.laws.proofs.Sums.{total-lt, largest-le}
-use Rattle.theory.proofs.Orders.{first-not-zero}
+use Rattle.laws.proofs.Lists.{first-not-zero}
 use Rattle.laws.proofs.Places.{members-i, members-e, is-lo, is-hi}
 use Rattle.laws.proofs.Runs as Run
-use Rattle.theory.proofs.Sound.{Ordered, Sound}
+use Rattle.laws.proofs.Sound.{Ordered, Sound}
 
 abbrev pub within : View → List ℕ → Type 0
 within v c = (j : ℕ) → v .policy .part j ≡ true → time c j ≤ limit v j

@@ -24,13 +24,13 @@ use Rattle.model.specs.Sets.{View, view, orderOf, countOf, members, critical, s
 use Rattle.model.specs.Runs.{time, limit, inRange, isRun}
 use Rattle.model.specs.Scenarios.{hiJobs}
 use Rattle.model.specs.Refusals.{isGood, applies, placed, firstOf, lowest, faultFrom, fault, checkCount, timeWrong, checkTime, budgetWrong, checkBudget, checkSpan, checkLoOrder, isHiJob, checkHiOrder, checks, refusal}
 use Rattle.laws.proofs.Lists.{distinct}
 use Rattle.laws.proofs.Bools.{tests, split, clash, not-i, not-i-false, and-l, and-r, and-i, or-no-l, or-no-r}
 use Rattle.laws.proofs.Lists.{any-no, any-none, mem-cases, not-mem-nil, only-i, only-e, first-none}
 use Rattle.laws.proofs.Sums.{from-mem}
 use Rattle.laws.proofs.Places.{Placed, members-i, members-e, members-nonzero}
-use Rattle.theory.proofs.Pigeonhole.{length-from, length-cut, pigeonhole}
-use Rattle.theory.proofs.Sound.{Sound}
+use Rattle.laws.proofs.Pigeonhole.{length-from, length-cut, pigeonhole}
+use Rattle.laws.proofs.Sound.{Sound}
 
 -- members and HI jobs ----------------------------------------------------------------------------------------------------------------
 
