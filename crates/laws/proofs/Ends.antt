@@ -1,6 +1,7 @@
 -- By the span every job that is not dropped has had its time. From the last arrival on no slot is idle while such a job is unfinished,
 -- so each slot adds one to the slots had in all; and those are at most the sum of the HI budgets.
 --   within v c     == every time is at most the job's largest budget
+--   Times v c      == and at least 1: the times of a run
 --   Kept t j       == job j is not dropped at instant t: the mode is LO, or it is a HI job
 --   named, no-idle == a kept job stands in the present order; while one is ready, no slot is idle
 --   Bounded v      == no job's largest budget is above its HI budget; so it is in a sound set (limit-hi)
@@ -27,6 +28,10 @@ use Rattle.laws.proofs.Sound.{Ordered, Sound}
 
 abbrev pub within : View → List ℕ → Type 0
 within v c = (j : ℕ) → v .policy .part j ≡ true → time c j ≤ limit v j
+
+-- the times of a run, from 1 up
+abbrev pub Times : View → List ℕ → Type 0
+Times v c = (j : ℕ) → v .policy .part j ≡ true → (1 ≤ time c j) × (time c j ≤ limit v j)
 
 pub limit-hi : (v : View) → Sound v → (j : ℕ) → v .policy .part j ≡ true → limit v j ≤ v .hi j
 unfolding limit

@@ -1,13 +1,13 @@
 -- The places of a list with one for each job, and what one slot does to a state.
 --   Placed p         == a number that takes part is a place, 1 to 64
---   at-in, at-out, at-set, place   == what stands at a place
+--   at-in, at-place, at-out, at-set, place   == what stands at a place
 --   members-..       == who is a member takes part; none is one twice, and 0 is none
 --   account-..       == the parts of the state after a slot
 -- Assumes nothing.
-use Prim.Native.Nat.{ℕ, suc, _+_, _-_, _≤_, _<_}
+use Prim.Native.Nat.{ℕ, zero, suc, _+_, _-_, _≤_, _<_}
 use mathlib.Core.Path.{_≡_, refl, sym, _∙_, ap}
 use mathlib.Core.Bool.{Bool, true, false, cond}
-use mathlib.Core.List.{List}
+use mathlib.Core.List.{List, [], _∷_}
 use native.Mathlib.Omega.{arith}
 use lib.Dec.{eqb, leb}
 use lib.ListN.{getD, length, set, length-set, List·getD-eq-default}
@@ -32,6 +32,15 @@ Placed p = (j : ℕ) → p .part j ≡ true → (1 ≤ j) × (j ≤ 64)
 pub at-in {ℓ} : {A : Type ℓ} (l : List A) (j : ℕ) (d : A) → 1 ≤ j → at l j d ≡ getD l (j - 1) d
 unfolding at
 at-in l j d h = rw (ne-eqb j 0 (omega arith))
+
+-- at a place of the list what stands there is no default
+pub getD-any {ℓ} : {A : Type ℓ} (l : List A) (i : ℕ) (a b : A) → i < length l → getD l i a ≡ getD l i b
+getD-any [] i a b h = absurd (omega arith)
+getD-any (x ∷ l) zero a b h = refl
+getD-any (x ∷ l) (suc i) a b h = getD-any l i a b (omega arith)
+
+pub at-place {ℓ} : {A : Type ℓ} (l : List A) (j : ℕ) (d e : A) → 1 ≤ j → j ≤ length l → at l j d ≡ getD l (j - 1) e
+at-place l j d e p q = at-in l j d p ∙ getD-any l (j - 1) d e (omega arith)
 
 pub at-out {ℓ} : {A : Type ℓ} (l : List A) (j : ℕ) (d : A) → length l < j → at l j d ≡ d
 at-out l j d h = at-in l j d (omega arith) ∙ List·getD-eq-default l d (omega arith)

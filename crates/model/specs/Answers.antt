@@ -1,26 +1,38 @@
 -- The answers of document 01 for every set, refused or not, by its view. "No verdict comes with [a refusal], and no part but the empty one;
 -- .. running times, finishes, finish tables and margins come back all 0, and everything lent is untouched."
+--   picked j              == the pick as an answer: a job, or idle;  lentPick: the pick over lent numbers
 --   judged v              == the judgement, and the times beside it
 --   finishRows v          == the finish rows;  worsts v, margins v: worst finishes and margins
 --   ran v c               == the execution of the run with times c
 --   tablesRefusal v m n   == the refusal of making both tables into room of lengths m and n
 --   loTableIn, hiTableIn  == what the two lent tables hold afterwards
-use Prim.Native.Nat.{ℕ}
-use mathlib.Core.Bool.{cond}
+use Prim.Native.Nat.{ℕ, suc}
+use mathlib.Core.Bool.{Bool, cond}
 use mathlib.Core.List.{List, [], _∷_, _++_, map}
+use lib.Dec.{eqb}
 use lib.IntN.{ℤ, pos}
 use lib.ListN.{length, drop, replicate}
+use Rattle.model.specs.declared.Pick.{Pick}
+use Rattle.model.specs.declared.Pick.the-variants.{Job as JobPick, Idle}
 use Rattle.model.specs.declared.Refusal.{Refusal}
 use Rattle.model.specs.declared.Ran.{Ran}
 use Rattle.model.specs.declared.Switch.the-variants.{Never}
 use Rattle.model.specs.declared.Judged.{Judged}
 use Rattle.model.specs.declared.Judgement.the-variants.{Refused, Found}
-use Rattle.model.specs.Lists.{numbers}
+use Rattle.model.specs.Lists.{at, numbers}
 use Rattle.model.specs.Sets.{View, span}
-use Rattle.model.specs.Runs.{outcomeIn, mark, switchIn}
+use Rattle.model.specs.Runs.{pick, outcomeIn, mark, switchIn}
 use Rattle.model.specs.Scenarios.{places, zeros, verdict, timesBeside, rows, worst, margin}
 use Rattle.model.specs.Tables.{loTable, hiTable}
 use Rattle.model.specs.Refusals.{isGood, firstOf, refusal, checkRun, checkRoom}
+
+-- "0 for idle, else a job number"
+unfoldable pub picked : ℕ → Pick
+picked j = cond (eqb j 0) Idle (JobPick j)
+
+-- The first job of the order that has arrived and is not done. An entry without a place in both lists names no job.
+unfoldable pub lentPick : List ℕ → List ℕ → List Bool → ℕ → Pick
+lentPick order arrivals done t = picked (pick order (λ j. at arrivals j (suc t)) done t)
 
 -- what the answer is where the refusal is not good, and where it is
 unfoldable pub unless {ℓ} : {A : Type ℓ} → Refusal → A → A → A

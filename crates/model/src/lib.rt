@@ -62,6 +62,12 @@ pub struct State {
     pub done: [bool; 64],
 }
 
+// Who gets a slot: a job, or nobody.
+pub enum Pick {
+    Job(u16),
+    Idle,
+}
+
 // The instant of a run's switch, if there is one.
 pub enum Switch {
     Never,

@@ -25,12 +25,12 @@ use Rattle.theory.specs.Misses.{ScenarioOf}
 use Rattle.laws.proofs.Bools.{tests, split, clash}
 use Rattle.laws.proofs.Runs as Run
 use Rattle.laws.proofs.Sound.{Ordered, Sound}
-use Rattle.laws.proofs.Ends.{within, Bounded, limit-hi}
+use Rattle.laws.proofs.Ends.{Times, within, Bounded, limit-hi}
 use Rattle.laws.proofs.Checks.{check-run}
 use Rattle.theory.proofs.Scenarios.{lo-time, lo-within, lo-stays, hi-least, hi-within}
 use Rattle.theory.proofs.PhaseTwo.{unfinished-i}
 use Rattle.theory.proofs.Dominance.{dominates-lo, dominates-hi}
-use Rattle.theory.proofs.Outcomes.{Times, switches, ends-done, ends-by, meets-e, meets-i}
+use Rattle.theory.proofs.Outcomes.{switches, ends-done, ends-by, meets-e, meets-i}
 use Rattle.theory.proofs.Verdicts.{fit-meets}
 
 pub scenario-times : (v : View) → Sound v → (x : Scenario) → ScenarioOf v x → Times v (timesOf v x)

@@ -1,5 +1,4 @@
 -- The switch of a run and what became of its jobs. A run c of v, each time from 1 to the job's largest budget.
---   Times v c      == such times
 --   switches       == the run never switches, and its mode is LO at every instant; or it switches at τ, before the span
 --   never-iff      == it never switches exactly if no HI job's time is above its LO budget
 --   not-dropped    == a job whose deadline is required is not dropped;  kept-had: who is not dropped has had its time by the span
@@ -24,13 +23,9 @@ use Rattle.laws.proofs.Lists.{any-none, any-no, least-le, least-before, least-p
 use Rattle.laws.proofs.Places.{members-i, members-e}
 use Rattle.laws.proofs.Runs as Run
 use Rattle.laws.proofs.Sound.{Ordered}
-use Rattle.laws.proofs.Ends.{within, Bounded, Kept, by-span}
+use Rattle.laws.proofs.Ends.{within, Times, Bounded, Kept, by-span}
 use Rattle.laws.proofs.Finishes.{finish-done, finish-pos, finish-none}
 use Rattle.theory.proofs.Scenarios.{lo-always}
-
--- the times of a run, as facts
-abbrev pub Times : View → List ℕ → Type 0
-Times v c = (j : ℕ) → v .policy .part j ≡ true → (1 ≤ time c j) × (time c j ≤ limit v j)
 
 -- the run switches at τ: the mode is HI there, and not before
 abbrev pub Switches : View → List ℕ → ℕ → Type 0
