@@ -4,6 +4,7 @@
 --   Times v c      == and at least 1: the times of a run
 --   Kept t j       == job j is not dropped at instant t: the mode is LO, or it is a HI job
 --   named, no-idle == a kept job stands in the present order; while one is ready, no slot is idle
+--   lo-always      == where no HI job's time is above its LO budget, the mode stays LO
 --   Bounded v      == no job's largest budget is above its HI budget; so it is in a sound set (limit-hi)
 --   by-span        == from the span on, a kept job has had its time
 -- Assumes nothing.
@@ -41,6 +42,21 @@ limit-hi v s j a =
 pub limit-lo : (v : View) (j : ℕ) → critical (v .policy) j ≡ false → limit v j ≡ v .policy .lo j
 unfolding limit
 limit-lo v j k = rw k refl
+
+-- where no HI job's time is above its LO budget, the mode stays LO
+pub lo-always : (p : Policy) (o : Ordered p) (c : List ℕ)
+    → ((j : ℕ) → p .part j ≡ true → critical p j ≡ true → time c j ≤ p .lo j) → (t : ℕ) → isHi (modeAt p c t) ≡ false
+lo-always p o c l zero =
+    split (isHi (modeAt p c 0))
+    (λ h. let (j, r) = Run.hi-from-start p c (o .room) h in absurd (omega (arith, r .2, r .3, l j (r .0) (r .1))))
+    (λ h. h)
+lo-always p o c l (suc t) =
+    split (isHi (modeAt p c (suc t)))
+    (λ h.
+    ⊎-elim (λ b. clash b (lo-always p o c l t))
+    (λ (j, r). absurd (omega (arith, r .2, r .3, l j (r .0) (r .1))))
+    (Run.hi-from p c (o .room) t h))
+    (λ h. h)
 
 module _ (p : Policy) (o : Ordered p) where
   pub no-zero : (m : Level) → mem 0 (p .order m) ≡ false

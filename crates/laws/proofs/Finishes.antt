@@ -2,6 +2,7 @@
 --   finish-le      == a job that has had its time by t finishes by t
 --   finish-done    == at its finish it has arrived and has had its time
 --   finish-before  == before its finish it has not;  finish-pos, finish-none: a time from 1 up
+--   finish-same    == it does not change as more instants are looked at;  finish-now: who has its time first at t + 1 finishes there
 -- Assumes nothing.
 use Prim.Native.Nat.{ℕ, suc, _≤_, _<_}
 use mathlib.Core.Path.{_≡_, sym, _∙_, subst}
@@ -62,3 +63,31 @@ module _ (p : Policy) (c : List ℕ) (room : Placed p) (n j : ℕ) (a : p .part 
   pub finish-none : (t : ℕ) → 1 ≤ time c j → t ≤ n → hadAt p c t j ≡ time c j → finishOf p c n j ≤ t
   finish-none t one q h =
       split (leb (finishOf p c n j) t) (λ r. omega (tests, r)) (λ r. absurd (omega (tests, r, finish-before t (omega (tests, r)) one)))
+
+-- the finish does not change as more instants are looked at
+pub finish-same : (p : Policy) (c : List ℕ) (room : Placed p) (j : ℕ) → p .part j ≡ true → 1 ≤ time c j → (m n : ℕ)
+    → hadAt p c m j ≡ time c j → m ≤ n → finishOf p c n j ≡ finishOf p c m j
+finish-same p c room j a one m n h q =
+    let by-m : finishOf p c m j ≤ m = finish-none p c room m j a m one (omega arith) h in
+    let by-n : finishOf p c n j ≤ m = finish-none p c room n j a m one q h in
+    omega (
+      arith,
+      finish-none p c room m j a (finishOf p c n j) one by-n (finish-done p c room n j a (omega arith) .1),
+      finish-none p c room n j a (finishOf p c m j) one (omega arith) (finish-done p c room m j a by-m .1),
+    )
+
+-- who has its time at t + 1 and not at t finishes at t + 1
+pub finish-now : (p : Policy) (c : List ℕ) (room : Placed p) (j : ℕ) → p .part j ≡ true → 1 ≤ time c j → (t n : ℕ)
+    → hadAt p c t j < time c j → hadAt p c (suc t) j ≡ time c j → t < n → finishOf p c n j ≡ suc t
+finish-now p c room j a one t n l h q =
+    let by : finishOf p c n j ≤ suc t = finish-none p c room n j a (suc t) one q h in
+    split (leb (finishOf p c n j) t)
+    (λ b.
+    absurd
+    (omega (
+      tests,
+      l,
+      finish-done p c room n j a (omega arith) .1,
+      Run.had-later p c room (finishOf p c n j) t j (room j a .0) (omega (tests, b)),
+    )))
+    (λ b. omega (tests, b, by))

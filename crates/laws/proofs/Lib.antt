@@ -2,6 +2,7 @@
 pub mod Bools
 pub mod Lists
 pub mod Sums
+pub mod Ascending
 pub mod Pigeonhole
 pub mod Places
 pub mod Runs
@@ -9,3 +10,4 @@ pub mod Finishes
 pub mod Sound
 pub mod Checks
 pub mod Ends
+pub mod Outcomes

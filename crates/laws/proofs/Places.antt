@@ -1,27 +1,27 @@
 -- The places of a list with one for each job, and what one slot does to a state.
 --   Placed p         == a number that takes part is a place, 1 to 64
---   at-in, at-place, at-out, at-set, place   == what stands at a place
+--   at-in, at-suc, at-place, at-out, at-set, place   == what stands at a place;  ext-at: lists that hold the same at each are equal
+--   pick-room        == so is who is picked
 --   members-..       == who is a member takes part; none is one twice, and 0 is none
 --   account-..       == the parts of the state after a slot
 -- Assumes nothing.
 use Prim.Native.Nat.{ℕ, zero, suc, _+_, _-_, _≤_, _<_}
 use mathlib.Core.Path.{_≡_, refl, sym, _∙_, ap}
-use mathlib.Core.Bool.{Bool, true, false, cond}
+use mathlib.Core.Bool.{Bool, true, false, cond, not}
 use mathlib.Core.List.{List, [], _∷_}
 use native.Mathlib.Omega.{arith}
 use lib.Dec.{eqb, leb}
 use lib.ListN.{getD, length, set, length-set, List·getD-eq-default}
-use lib.Seq.{getD-set-same, getD-set-other}
-use borrow.Author.Tests.{ne-eqb, eqb-true, eqb-false}
+use lib.Seq.{getD-set-same, getD-set-other, ext-getD}
+use borrow.Author.Tests.{ne-eqb, eqb-true, eqb-false, not-true}
 use Rattle.model.specs.declared.Level.{Level}
 use Rattle.model.specs.declared.Level.the-variants.{Lo, Hi}
 use Rattle.model.specs.declared.State.{State}
 use Rattle.model.specs.Lists.{at, from, numbers, mem}
 use Rattle.model.specs.Sets.{Policy, isHi, members}
-use Rattle.model.specs.Runs.{time, bump, account}
-use Rattle.laws.proofs.Bools.{tests, split, clash}
-use Rattle.laws.proofs.Lists.{only-i, only-e}
-use Rattle.laws.proofs.Lists.{distinct}
+use Rattle.model.specs.Runs.{time, ready, pick, bump, account}
+use Rattle.laws.proofs.Bools.{tests, split, clash, and-r}
+use Rattle.laws.proofs.Lists.{distinct, only-i, only-e, first-some}
 use Rattle.laws.proofs.Sums.{from-mem, mem-from, from-distinct, only-distinct}
 
 -- places ------------------------------------------------------------------------------------------------------------------------------
@@ -33,6 +33,9 @@ pub at-in {ℓ} : {A : Type ℓ} (l : List A) (j : ℕ) (d : A) → 1 ≤ j → 
 unfolding at
 at-in l j d h = rw (ne-eqb j 0 (omega arith))
 
+pub at-suc {ℓ} : {A : Type ℓ} (l : List A) (i : ℕ) (d : A) → at l (suc i) d ≡ getD l i d
+at-suc l i d = at-in l (suc i) d (omega arith) ∙ ap (λ n. getD l n d) (omega arith)
+
 -- at a place of the list what stands there is no default
 pub getD-any {ℓ} : {A : Type ℓ} (l : List A) (i : ℕ) (a b : A) → i < length l → getD l i a ≡ getD l i b
 getD-any [] i a b h = absurd (omega arith)
@@ -41,6 +44,12 @@ getD-any (x ∷ l) (suc i) a b h = getD-any l i a b (omega arith)
 
 pub at-place {ℓ} : {A : Type ℓ} (l : List A) (j : ℕ) (d e : A) → 1 ≤ j → j ≤ length l → at l j d ≡ getD l (j - 1) e
 at-place l j d e p q = at-in l j d p ∙ getD-any l (j - 1) d e (omega arith)
+
+-- two lists are equal when they are as long and hold the same at each place
+pub ext-at {ℓ} : {A : Type ℓ} (d : A) (l m : List A) → length l ≡ length m
+    → ((j : ℕ) → 1 ≤ j → j ≤ length l → at l j d ≡ at m j d) → l ≡ m
+ext-at d l m e h =
+    ext-getD d l m e (λ i q. sym (at-suc l i d) ∙ h (suc i) (omega arith) (omega arith) ∙ at-suc m i d)
 
 pub at-out {ℓ} : {A : Type ℓ} (l : List A) (j : ℕ) (d : A) → length l < j → at l j d ≡ d
 at-out l j d h = at-in l j d (omega arith) ∙ List·getD-eq-default l d (omega arith)
@@ -67,6 +76,17 @@ place l j h =
     split (leb j (length l)) (λ q. omega (tests, p, q))
     (λ q. clash (at-out l j true (omega (tests, q))) h))
     (λ p. clash (let z : j ≡ 0 = omega (tests, p) in rw z refl) h)
+
+-- who is picked is not done
+pub pick-room : (l : List ℕ) (a : ℕ → ℕ) (d : List Bool) (t : ℕ) → pick l a d t ≤ length d
+unfolding pick ready
+pick-room l a d t =
+    let j : ℕ = pick l a d t in
+    split (eqb j 0)
+    (λ e. omega (tests, e))
+    (λ n.
+    let r = first-some (ready a d t) l (eqb-false j 0 n) .1 in
+    place d j (not-true (at d j true) (and-r (leb (a j) t) (not (at d j true)) r)) .1)
 
 pub members-i : (p : Policy) (j : ℕ) → Placed p → p .part j ≡ true → mem j (members p) ≡ true
 unfolding members numbers

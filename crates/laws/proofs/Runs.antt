@@ -22,7 +22,7 @@ use Rattle.model.specs.Runs.{time, start, overruns, modeNow, ready, pick, slotN
 use Rattle.laws.proofs.Bools.{tests, split, clash, same, not-i, and-l, and-r, and-i, or-l, or-r, or-cases}
 use Rattle.laws.proofs.Lists.{any-i, any-e, first-some}
 use Rattle.laws.proofs.Sums.{at-numbers}
-use Rattle.laws.proofs.Places.{Placed, at-in, at-out, place, members-i, members-e, cond-hi, account-lengths, account-had, account-done, account-mode}
+use Rattle.laws.proofs.Places.{Placed, at-in, at-out, pick-room, members-i, members-e, cond-hi, account-lengths, account-had, account-done, account-mode}
 
 module _ (p : Policy) (c : List ℕ) where
   state-suc : (t : ℕ) → stateAt p c (suc t) ≡ account c (slotAt p c t) (modeAt p c t) (stateAt p c t)
@@ -42,19 +42,9 @@ module _ (p : Policy) (c : List ℕ) where
   unfolding slotAt slotNow modeAt pick
   slot-some t h = first-some (ready (p .arrival) (stateAt p c t .done) t) (p .order (modeAt p c t)) h
 
-  slot-room : (t : ℕ) → slotAt p c t ≤ 64
-  unfolding ready
-  slot-room t =
-      split (eqb (slotAt p c t) 0) (λ e. omega (tests, e))
-      (λ n.
-      let r = slot-some t (eqb-false (slotAt p c t) 0 n) .1 in
-      omega (
-        arith,
-        place (stateAt p c t .done) (slotAt p c t)
-            (not-true (at (stateAt p c t .done) (slotAt p c t) true)
-            (and-r (leb (p .arrival (slotAt p c t)) t) (not (at (stateAt p c t .done) (slotAt p c t) true)) r)),
-        lengths t,
-      ))
+  pub slot-room : (t : ℕ) → slotAt p c t ≤ 64
+  unfolding slotAt slotNow
+  slot-room t = omega (arith, pick-room (p .order (modeNow p (stateAt p c t))) (p .arrival) (stateAt p c t .done) t, lengths t)
 
   pub had-zero : (j : ℕ) → 1 ≤ j → hadAt p c 0 j ≡ 0
   unfolding hadAt stateAt start

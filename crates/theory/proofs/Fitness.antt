@@ -30,7 +30,7 @@ use Rattle.laws.proofs.Checks.{check-run}
 use Rattle.theory.proofs.Scenarios.{lo-time, lo-within, lo-stays, hi-least, hi-within}
 use Rattle.theory.proofs.PhaseTwo.{unfinished-i}
 use Rattle.theory.proofs.Dominance.{dominates-lo, dominates-hi}
-use Rattle.theory.proofs.Outcomes.{switches, ends-done, ends-by, meets-e, meets-i}
+use Rattle.laws.proofs.Outcomes.{switches, ends-done, ends-by, meets-e, meets-i}
 use Rattle.theory.proofs.Verdicts.{fit-meets}
 
 pub scenario-times : (v : View) → Sound v → (x : Scenario) → ScenarioOf v x → Times v (timesOf v x)

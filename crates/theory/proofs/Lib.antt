@@ -9,7 +9,6 @@ pub mod PhaseOne
 pub mod Scenarios
 pub mod PhaseTwo
 pub mod Dominance
-pub mod Outcomes
 pub mod Verdicts
 pub mod Fitness
 pub mod Margins

@@ -36,7 +36,7 @@ use Rattle.laws.proofs.Sound.{Sound}
 use Rattle.laws.proofs.Ends.{limit-hi}
 use Rattle.laws.proofs.Finishes.{finish-none}
 use Rattle.theory.proofs.Scenarios.{place-time, lo-time, lo-stays, lo-until, agree, hi-time, hi-at-turn}
-use Rattle.theory.proofs.Outcomes.{switches, ends-as, ends-span, ends-pos, ends-by, ends-done, meets-e, meets-i}
+use Rattle.laws.proofs.Outcomes.{switches, ends-as, ends-span, ends-pos, ends-by, ends-done, meets-e, meets-i}
 use Rattle.theory.proofs.Verdicts.{fit-meets}
 use Rattle.theory.proofs.Fitness.{scenario-times, required-hi, required-lo}
 

@@ -33,7 +33,7 @@ use Rattle.laws.proofs.Ends.{within, limit-hi}
 use Rattle.theory.proofs.Scenarios.{lo-until, same-slot, turn-had, turn-before}
 use Rattle.theory.proofs.PhaseTwo.{unfinished-i}
 use Rattle.theory.proofs.Dominance.{dominates-lo, dominates-hi}
-use Rattle.theory.proofs.Outcomes.{switches, never-iff, outcome-cases, meets-e, ends-as}
+use Rattle.laws.proofs.Outcomes.{switches, never-iff, outcome-cases, meets-e, ends-as}
 use Rattle.laws.proofs.Finishes.{finish-done, finish-before, finish-pos}
 use Rattle.theory.proofs.Verdicts.{unfit-is}
 use Rattle.theory.proofs.Fitness.{scenario-times, required-hi, runs-meet, meet-fit}

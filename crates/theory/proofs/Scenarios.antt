@@ -1,5 +1,5 @@
 -- The scenarios as runs. Scenario J runs as scenario 0, slot for slot, until J has had its LO budget, and switches there.
---   lo-time, lo-always     == in scenario 0 each job runs for its LO budget, and the mode stays LO
+--   lo-time, lo-stays      == in scenario 0 each job runs for its LO budget, and the mode stays LO
 --   turn-..                == the instant at which J has had its LO budget in scenario 0
 --   raised                 == in scenario J a job has its LO budget; or it is a HI job unfinished until then, and has its HI budget
 --   agree, lo-until, same-slot, hi-at-turn   == until its turn scenario J is scenario 0; then the mode is HI
@@ -8,7 +8,6 @@
 use Prim.Native.Nat.{ℕ, zero, suc, _+_, _≤_, _<_}
 use mathlib.Core.Path.{_≡_, refl, sym, _∙_, ap, subst}
 use mathlib.Core.Bool.{true, false, cond, not, _&&_, _||_}
-use mathlib.Core.List.{List}
 use mathlib.Core.Logic.{_⊎_, inl, inr, ⊎-elim}
 use native.Mathlib.Omega.{arith}
 use lib.Dec.{eqb, leb}
@@ -16,7 +15,7 @@ use borrow.Author.Tests.{eqb-true, eqb-false, eq-eqb, ne-eqb, not-true}
 use Rattle.model.specs.declared.Level.the-variants.{Lo}
 use Rattle.model.specs.declared.Scenario.the-variants.{Hi as HiOf}
 use Rattle.model.specs.Lists.{first}
-use Rattle.model.specs.Sets.{Policy, View, isHi, critical, span}
+use Rattle.model.specs.Sets.{View, isHi, critical, span}
 use Rattle.model.specs.Runs.{time, ready, stateAt, modeAt, slotAt, hadAt, doneAt, limit}
 use Rattle.model.specs.Scenarios.{places, loTimes, turn, hiTime, timesOf}
 use Rattle.laws.proofs.Bools.{split, clash, not-i, and-l, and-r, and-i, or-cases, or-l, or-r}
@@ -25,28 +24,13 @@ use Rattle.laws.proofs.Sums.{at-numbers}
 use Rattle.laws.proofs.Places.{is-lo}
 use Rattle.laws.proofs.Runs as Run
 use Rattle.laws.proofs.Sound.{Ordered, Sound}
-use Rattle.laws.proofs.Ends.{within, limit-hi, by-span}
+use Rattle.laws.proofs.Ends.{within, limit-hi, by-span, lo-always}
 use Rattle.laws.proofs.Finishes.{finish-done, finish-before, finish-none}
 
 pub place-time : (v : View) (f : ℕ → ℕ) (j : ℕ) → Ordered (v .policy) → v .policy .part j ≡ true → time (places v f) j ≡ f j
 unfolding time places
 place-time v f j o a =
     at-numbers (λ i. cond (v .policy .part i) (f i) 0) 64 j 0 (o .room j a .0) (o .room j a .1) ∙ rw a refl
-
--- where no HI job's time is above its LO budget, the mode stays LO
-pub lo-always : (p : Policy) (o : Ordered p) (c : List ℕ)
-    → ((j : ℕ) → p .part j ≡ true → critical p j ≡ true → time c j ≤ p .lo j) → (t : ℕ) → isHi (modeAt p c t) ≡ false
-lo-always p o c l zero =
-    split (isHi (modeAt p c 0))
-    (λ h. let (j, r) = Run.hi-from-start p c (o .room) h in absurd (omega (arith, r .2, r .3, l j (r .0) (r .1))))
-    (λ h. h)
-lo-always p o c l (suc t) =
-    split (isHi (modeAt p c (suc t)))
-    (λ h.
-    ⊎-elim (λ b. clash b (lo-always p o c l t))
-    (λ (j, r). absurd (omega (arith, r .2, r .3, l j (r .0) (r .1))))
-    (Run.hi-from p c (o .room) t h))
-    (λ h. h)
 
 module _ (v : View) (s : Sound v) where
   pub lo-time : (j : ℕ) → v .policy .part j ≡ true → time (loTimes v) j ≡ v .policy .lo j

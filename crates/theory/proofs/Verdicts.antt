@@ -1,12 +1,11 @@
 -- The search for the first required miss.
---   Ascending l      == the entries of l rise;  first-lowest: then the first that passes is the lowest
 --   late-none        == no job is late where required, exactly if the run meets what it requires
 --   fit-meets        == the verdict is fit exactly if every scenario meets what it requires
 --   unfit-is         == an unfit answer is true of its scenario
 -- Assumes nothing.
-use Prim.Native.Nat.{ℕ, zero, suc, _<_}
+use Prim.Native.Nat.{ℕ, _<_}
 use mathlib.Core.Path.{_≡_, refl, sym, _∙_, ap, subst}
-use mathlib.Core.Bool.{Bool, true, false}
+use mathlib.Core.Bool.{true, false}
 use mathlib.Core.List.{List, [], _∷_, map}
 use mathlib.Core.Logic.{_⊎_, inl, inr, ⊎-elim, _↔_}
 use native.Mathlib.Omega.{arith}
@@ -16,47 +15,16 @@ use Rattle.model.specs.declared.Scenario.{Scenario}
 use Rattle.model.specs.declared.Scenario.the-variants.{Lo, Hi}
 use Rattle.model.specs.declared.Verdict.the-variants.{Fit, Unfit}
 use Rattle.model.specs.declared.Miss.{Miss}
-use Rattle.model.specs.Lists.{from, numbers, only, first, any, mem}
-use Rattle.model.specs.Sets.{Policy, View, members, critical}
+use Rattle.model.specs.Lists.{any, mem}
+use Rattle.model.specs.Sets.{View, members, critical}
 use Rattle.model.specs.Runs.{missed, meets}
 use Rattle.model.specs.Scenarios.{hiJobs, scenarios, timesOf, finishIn, lateIn, search, verdict}
 use Rattle.theory.specs.Misses.{ScenarioOf, Earlier, Missed}
 use Rattle.laws.proofs.Bools.{split, not-i}
-use Rattle.laws.proofs.Lists.{mem-head, mem-tail, mem-cases, not-mem-nil, only-e, first-some, first-none, first-zero, any-none, any-no}
-use Rattle.laws.proofs.Sums.{mem-from}
+use Rattle.laws.proofs.Lists.{mem-head, mem-tail, mem-cases, not-mem-nil, first-some, first-none, first-zero, any-none, any-no}
+use Rattle.laws.proofs.Ascending.{Ascending, only-ascending, members-ascending, first-lowest}
 use Rattle.laws.proofs.Places.{Placed, members-i, members-e, members-nonzero}
 use Rattle.laws.proofs.Checks.{hi-jobs-mem, hi-jobs-i}
-
--- rising lists ------------------------------------------------------------------------------------------------------------------------
-
-Ascending : List ℕ → Type 0
-Ascending [] = Unit
-Ascending (x ∷ l) = ((j : ℕ) → mem j l ≡ true → x < j) × Ascending l
-
-from-ascending : (k n : ℕ) → Ascending (from k n)
-unfolding from Ascending
-from-ascending k zero = tt
-from-ascending k (suc n) = (λ j m. omega (arith, mem-from (suc k) n j m), from-ascending (suc k) n)
-
-only-ascending : (test : ℕ → Bool) (l : List ℕ) → Ascending l → Ascending (only test l)
-unfolding only Ascending
-only-ascending test [] r = tt
-only-ascending test (x ∷ l) (h, r) =
-    split (test x) (λ t. rw t (λ j m. h j (only-e test l j m .0), only-ascending test l r)) (λ f. rw f (only-ascending test l r))
-
-members-ascending : (p : Policy) → Ascending (members p)
-unfolding members numbers
-members-ascending p = only-ascending (p .part) (from 1 64) (from-ascending 1 64)
-
-first-lowest : (test : ℕ → Bool) (l : List ℕ) → Ascending l → (i : ℕ) → mem i l ≡ true → i < first test l → test i ≡ false
-unfolding first Ascending
-first-lowest test [] r i m q = not-mem-nil i m
-first-lowest test (x ∷ l) (h, r) i m q =
-    split (test x)
-    (λ t.
-    ⊎-elim (λ e. absurd (omega (arith, e, rw t at q))) (λ n. absurd (omega (arith, h i n, rw t at q))) (mem-cases i x l m))
-    (λ f.
-    ⊎-elim (λ (e : i ≡ x). ap test e ∙ f) (λ n. first-lowest test l r i n (rw f at q)) (mem-cases i x l m))
 
 -- one scenario ------------------------------------------------------------------------------------------------------------------------
 

@@ -24,7 +24,7 @@ use Rattle.laws.proofs.Sound.{Sound}
 use Rattle.laws.proofs.Checks.{passes-sound, check-run}
 use Rattle.laws.proofs.Ends.{Times, limit-hi}
 use Rattle.theory.proofs.Embeddings.{part-i, part-e}
-use Rattle.theory.proofs.Outcomes.{ends-as, ends-done}
+use Rattle.laws.proofs.Outcomes.{ends-as, ends-done}
 
 pub sound-of : (s : Set) → Passes s → Sound (view s)
 unfolding isGood good

@@ -3,29 +3,30 @@
 --   never-iff      == it never switches exactly if no HI job's time is above its LO budget
 --   not-dropped    == a job whose deadline is required is not dropped;  kept-had: who is not dropped has had its time by the span
 --   ends-..        == the finish of a job whose deadline is required;  outcome-cases: a job is dropped or finishes by the span
+--   mark-is        == the number that the paper writes for its outcome is its finish where it is done at the span, else 0
 --   meets-e, meets-i == the run meets what it requires exactly if each such finish is by the deadline
 -- Assumes nothing.
 use Prim.Native.Nat.{ℕ, zero, suc, _≤_, _<_}
 use mathlib.Core.Path.{_≡_, refl, sym, _∙_, ap, subst}
-use mathlib.Core.Bool.{Bool, true, false, not, _||_}
+use mathlib.Core.Bool.{Bool, true, false, cond, not, _&&_, _||_}
 use mathlib.Core.List.{List}
 use mathlib.Core.Logic.{_⊎_, inl, inr, ⊎-elim, _↔_}
 use native.Mathlib.Omega.{arith}
+use native.Mathlib.Decide.{le-ind}
 use lib.Dec.{eqb, leb, ltb}
-use borrow.Author.Tests.{eqb-true, eqb-false, le-ltb, not-true, not-false}
+use borrow.Author.Tests.{eqb-true, eqb-false, eq-eqb, ne-eqb, le-ltb, not-true, not-false}
 use Rattle.model.specs.declared.Switch.{Switch}
 use Rattle.model.specs.declared.Switch.the-variants.{Never, At}
-use Rattle.model.specs.Lists.{any, least}
+use Rattle.model.specs.Lists.{any, mem, least}
 use Rattle.model.specs.Sets.{View, isHi, members, critical, span}
-use Rattle.model.specs.Runs.{time, modeAt, hadAt, doneAt, finishOf, switchOf, droppedBy, Outcome, finished, dropped, outcome, mark, requiredAfter, outcomeIn, switchIn, required, late, missed, meets, limit}
-use Rattle.laws.proofs.Bools.{tests, split, clash, not-i, and-i, and-no-l, and-no-r, or-no-l}
+use Rattle.model.specs.Runs.{time, modeAt, slotAt, hadAt, doneAt, finishOf, switchOf, droppedBy, Outcome, finished, dropped, outcome, mark, requiredAfter, outcomeIn, switchIn, required, late, missed, meets}
+use Rattle.laws.proofs.Bools.{tests, split, clash, not-i, and-l, and-r, and-i, or-cases, and-no-l, and-no-r, or-no-l}
 use Rattle.laws.proofs.Lists.{any-none, any-no, least-le, least-before, least-passes}
-use Rattle.laws.proofs.Places.{members-i, members-e}
+use Rattle.laws.proofs.Places.{members-i, members-e, is-hi}
 use Rattle.laws.proofs.Runs as Run
 use Rattle.laws.proofs.Sound.{Ordered}
-use Rattle.laws.proofs.Ends.{within, Times, Bounded, Kept, by-span}
+use Rattle.laws.proofs.Ends.{within, Times, Bounded, Kept, by-span, lo-always}
 use Rattle.laws.proofs.Finishes.{finish-done, finish-pos, finish-none}
-use Rattle.theory.proofs.Scenarios.{lo-always}
 
 -- the run switches at τ: the mode is HI there, and not before
 abbrev pub Switches : View → List ℕ → ℕ → Type 0
@@ -203,3 +204,57 @@ module _ (v : View) (o : Ordered (v .policy)) (b : Bounded v) (c : List ℕ) (r 
         rw d refl,
         finish-none (v .policy) c (o .room) (span v) j a (span v) (r j a .0) (omega arith) (kept-had j a d),
       ))
+
+  -- in HI mode a LO job gets no slot
+  no-slot : (t j : ℕ) → 1 ≤ j → isHi (modeAt (v .policy) c t) ≡ true → critical (v .policy) j ≡ false → slotAt (v .policy) c t ≡ j → ⊥
+  no-slot t j one h k e =
+      let p = v .policy in
+      let m : mem j (p .order (modeAt p c t)) ≡ true = Run.slot-e p c (o .room) t j one e .3 in
+      clash (o .hiOnly j (rw (is-hi (modeAt p c t) h) at m) .1) k
+
+  -- so who is dropped never has its time
+  dropped-lacks : (j : ℕ) → v .policy .part j ≡ true → droppedBy (v .policy) c j (switchIn v c) ≡ true
+      → (t : ℕ) → hadAt (v .policy) c t j < time c j
+  unfolding droppedBy
+  dropped-lacks j a d t =
+      let p = v .policy in
+      let one : 1 ≤ j = o .room j a .0 in
+      ⊎-elim
+      (λ (e, lo). clash d (rw e refl))
+      (λ (τ, x).
+      let y : (not (critical p j) && (not (doneAt p c τ j) || leb τ (p .arrival j))) ≡ true = rw (x .0) at d in
+      let k : critical p j ≡ false = not-true (critical p j) (and-l (not (critical p j)) (not (doneAt p c τ j) || leb τ (p .arrival j)) y) in
+      let at-switch : hadAt p c τ j < time c j =
+      ⊎-elim
+      (λ n.
+      let ne : hadAt p c τ j ≡ time c j → ⊥ =
+      eqb-false (hadAt p c τ j) (time c j) (sym (Run.done-is p c (o .room) τ j a) ∙ not-true (doneAt p c τ j) n) in
+      omega (arith, ne, Run.had-le p c (o .room) τ j a))
+      (λ l. omega (tests, r j a, Run.had-early p c (o .room) τ j one (omega (tests, l))))
+      (or-cases (not (doneAt p c τ j)) (leb τ (p .arrival j))
+      (and-r (not (critical p j)) (not (doneAt p c τ j) || leb τ (p .arrival j)) y)) in
+      split (leb t τ)
+      (λ q. omega (tests, at-switch, Run.had-later p c (o .room) t τ j one (omega (tests, q))))
+      (λ q.
+      le-ind (λ u. hadAt p c u j < time c j) at-switch
+      (λ u l h.
+      omega (
+        arith,
+        h,
+        Run.had-other p c (o .room) u j one (no-slot u j one (Run.hi-later p c (o .room) τ u l (x .2)) k),
+      ))
+      t
+      (omega (tests, q))))
+      switches
+
+  -- a job's finish, 0 for a dropped job: its finish where it is done at the span, else 0
+  pub mark-is : (j : ℕ) → v .policy .part j ≡ true
+      → mark (outcomeIn v c j) ≡ cond (doneAt (v .policy) c (span v) j) (finishOf (v .policy) c (span v) j) 0
+  unfolding outcomeIn outcome switchIn mark
+  mark-is j a =
+      let p = v .policy in
+      let done : doneAt p c (span v) j ≡ eqb (hadAt p c (span v) j) (time c j) = Run.done-is p c (o .room) (span v) j a in
+      split (droppedBy p c j (switchIn v c))
+      (λ d.
+      rw (d, done, ne-eqb (hadAt p c (span v) j) (time c j) (omega (arith, dropped-lacks j a d (span v)))) refl)
+      (λ d. rw (d, done, eq-eqb (hadAt p c (span v) j) (time c j) (kept-had j a d)) refl)
