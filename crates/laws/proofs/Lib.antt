@@ -3,6 +3,7 @@ pub mod Bools
 pub mod Lists
 pub mod Sums
 pub mod Ascending
+pub mod Differences
 pub mod Pigeonhole
 pub mod Places
 pub mod Runs
@@ -10,4 +11,5 @@ pub mod Finishes
 pub mod Sound
 pub mod Checks
 pub mod Ends
+pub mod Turns
 pub mod Outcomes

@@ -26,7 +26,8 @@ use Rattle.laws.proofs.Ends.{within, limit-lo}
 use Rattle.laws.proofs.Finishes.{finish-none}
 use Rattle.theory.proofs.PhaseOne.{ahead}
 use Rattle.theory.proofs.PhaseTwo.{unfinished, unfinished-e, end}
-use Rattle.theory.proofs.Scenarios.{lo-time, lo-stays, lo-ends, turn-had, hi-raised, hi-least, lo-until}
+use Rattle.laws.proofs.Turns.{lo-time, turn-had, hi-raised, hi-least}
+use Rattle.theory.proofs.Scenarios.{lo-stays, lo-ends, lo-until}
 
 module _ (w v : View) (e : ℕ → ℕ) (k : Weaker e w v) (ow : Ordered (w .policy)) (sv : Sound v) (c : List ℕ) (wc : within w c) where
   low : (i : ℕ) → w .policy .part i ≡ true → critical (w .policy) i ≡ false → time c i ≤ w .policy .lo i

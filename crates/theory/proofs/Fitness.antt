@@ -27,7 +27,8 @@ use Rattle.laws.proofs.Runs as Run
 use Rattle.laws.proofs.Sound.{Ordered, Sound}
 use Rattle.laws.proofs.Ends.{Times, within, Bounded, limit-hi}
 use Rattle.laws.proofs.Checks.{check-run}
-use Rattle.theory.proofs.Scenarios.{lo-time, lo-within, lo-stays, hi-least, hi-within}
+use Rattle.laws.proofs.Turns.{lo-time, lo-range, hi-range}
+use Rattle.theory.proofs.Scenarios.{lo-stays}
 use Rattle.theory.proofs.PhaseTwo.{unfinished-i}
 use Rattle.theory.proofs.Dominance.{dominates-lo, dominates-hi}
 use Rattle.laws.proofs.Outcomes.{switches, ends-done, ends-by, meets-e, meets-i}
@@ -35,8 +36,8 @@ use Rattle.theory.proofs.Verdicts.{fit-meets}
 
 pub scenario-times : (v : View) → Sound v → (x : Scenario) → ScenarioOf v x → Times v (timesOf v x)
 unfolding timesOf
-scenario-times v s Lo q j a = omega (arith, lo-time v s j a, s .some j a, lo-within v s j a)
-scenario-times v s (Hi J) q j a = omega (arith, hi-least v s J (q .0) (q .1) j a, s .some j a, hi-within v s J (q .0) (q .1) j a)
+scenario-times v s Lo q = lo-range v s
+scenario-times v s (Hi J) q = hi-range v s J (q .0) (q .1)
 
 -- a HI job's deadline is always required
 pub required-hi : (v : View) (c : List ℕ) (j : ℕ) → critical (v .policy) j ≡ true → required v c j ≡ true

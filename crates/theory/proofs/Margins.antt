@@ -30,12 +30,14 @@ use Rattle.theory.specs.Signs.{negative, signed}
 use Rattle.laws.proofs.Bools.{tests, split, clash, and-i, and-l, and-r, or-no-l}
 use Rattle.laws.proofs.Lists.{mem-head, mem-tail}
 use Rattle.laws.proofs.Sums.{largest-le, from-mem}
+use Rattle.laws.proofs.Differences.{minus}
 use Rattle.laws.proofs.Places.{at-in, at-out}
 use Rattle.laws.proofs.Runs as Run
 use Rattle.laws.proofs.Sound.{Sound}
 use Rattle.laws.proofs.Ends.{limit-hi}
 use Rattle.laws.proofs.Finishes.{finish-none}
-use Rattle.theory.proofs.Scenarios.{place-time, lo-time, lo-stays, lo-until, agree, hi-time, hi-at-turn}
+use Rattle.laws.proofs.Turns.{place-time, lo-time, hi-time}
+use Rattle.theory.proofs.Scenarios.{lo-stays, lo-until, agree, hi-at-turn}
 use Rattle.laws.proofs.Outcomes.{switches, ends-as, ends-span, ends-pos, ends-by, ends-done, meets-e, meets-i}
 use Rattle.theory.proofs.Verdicts.{fit-meets}
 use Rattle.theory.proofs.Fitness.{scenario-times, required-hi, required-lo}
@@ -58,10 +60,6 @@ largest-of f (x ∷ l) =
     (largest-of f l))
 
 -- differences -------------------------------------------------------------------------------------------------------------------------
-
-minus : (a b : ℕ) → pos a -ℤ pos b ≡ cond (ltb a b) (negsuc (b - suc a)) (pos (a - b))
-minus a zero = rw (le-ltb a 0 (omega arith)) (ap pos (omega arith))
-minus a (suc b) = refl
 
 minus-negative : (a b : ℕ) → negative (pos a -ℤ pos b) ≡ ltb a b
 unfolding negative

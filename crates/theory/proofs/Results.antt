@@ -30,7 +30,8 @@ use Rattle.laws.proofs.Bools.{and-l, and-r}
 use Rattle.laws.proofs.Runs as Run
 use Rattle.laws.proofs.Sound.{Ordered}
 use Rattle.laws.proofs.Ends.{within, limit-hi}
-use Rattle.theory.proofs.Scenarios.{lo-until, same-slot, turn-had, turn-before}
+use Rattle.laws.proofs.Turns.{turn-had, turn-before}
+use Rattle.theory.proofs.Scenarios.{lo-until, same-slot}
 use Rattle.theory.proofs.PhaseTwo.{unfinished-i}
 use Rattle.theory.proofs.Dominance.{dominates-lo, dominates-hi}
 use Rattle.laws.proofs.Outcomes.{switches, never-iff, outcome-cases, meets-e, ends-as}
