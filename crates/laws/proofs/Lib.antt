@@ -5,6 +5,7 @@ pub mod Sums
 pub mod Ascending
 pub mod Differences
 pub mod Pigeonhole
+pub mod Members
 pub mod Places
 pub mod Runs
 pub mod Finishes

@@ -1,0 +1,33 @@
+-- `judge` meets its contract: refused as the checks say, or the verdict that the search finds.
+-- Assumes nothing.
+use borrow.Author.Needs.{needs}
+use Rattle.analysis.proofs.AnswerLaws.{good-of, refused-judged, Prepared, prepared, found-judged}
+use Rattle.analysis.proofs.Views.{good-counts}
+use Rattle.analysis.proofs.judge.Statement.{statement}
+use Rattle.analysis.proofs.judge.Tie as tie
+
+refusal-of-requires : tie.Need-refusal-of-requires
+refusal-of-requires c κs = search needs
+
+returns : tie.Need-returns
+returns c = refused-judged _ _ (c .before .before .refusal-of .ensures) (c .if1 .taken)
+
+columns-of-requires : tie.Need-columns-of-requires
+columns-of-requires c κs = good-counts _ (good-of _ _ (c .before .before .refusal-of .ensures) (c .if1 .left)) .0
+
+span-in-requires : tie.Need-span-in-requires
+span-in-requires c κs = good-of _ _ (c .before .before .before .refusal-of .ensures) (c .before .if1 .left)
+
+ready : (c : tie.After-span-in) → Prepared (c .before .before .before .before .before .args .s) (c .before .columns-of .result) (c .span-in .result)
+ready c =
+    prepared _ _ _ (good-of _ _ (c .before .before .before .before .refusal-of .ensures) (c .before .before .if1 .left)) (search needs) (search needs)
+    (c .before .columns-of .ensures) (c .span-in .ensures)
+
+search-requires : tie.Need-search-requires
+search-requires c κs = (ready c .testable, ready c .end)
+
+returns-2 : tie.Need-returns-2
+returns-2 c = found-judged _ _ _ (ready (c .before)) _ (c .search .ensures)
+
+pub judge-spec : {M : Type 1} → statement M
+judge-spec = tie.close (tie.spec refusal-of-requires returns columns-of-requires span-in-requires search-requires returns-2)

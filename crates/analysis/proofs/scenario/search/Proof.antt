@@ -1,0 +1,131 @@
+-- `search` meets its contract. The invariant over the scenarios: the verdict is what the search from scenario x on finds. Over the jobs: those
+-- passed have no required miss. Where the loops are left, by the scenarios' end or by the break, `left` says what has been found.
+-- Assumes nothing.
+use Prim.Native.Nat.{_+_, _-_, _≤_}
+use mathlib.Core.Path.{_≡_, refl, sym, _∙_}
+use mathlib.Core.Logic.{⊎-elim}
+use native.Mathlib.Omega.{arith}
+use borrow.Author.Needs.{needs}
+use Rattle.model.specs.Scenarios.{verdict}
+use Rattle.analysis.specs.Columns.{viewOf}
+use Rattle.analysis.proofs.Found.{Found, turn-pass, turn-skip, found-fit, found-miss, unfit-is, fit-is, job-fits}
+use Rattle.analysis.proofs.Search.{rest, rest-start, Passed, passed-more, lo-runs, can-play, can-run, missed-turn}
+use Rattle.analysis.proofs.scenario.search.Statement.{statement}
+use Rattle.analysis.proofs.scenario.search.Tie as tie
+
+abbrev Inv-loop : tie.InvT-loop
+Inv-loop span k n ends x job₀ finish₀ times r job finish = (job ≤ n) × Passed k times job
+
+abbrev μ-loop : tie.MeasureT-loop
+μ-loop span k n ends x job₀ finish₀ times r job finish = n - job
+
+abbrev Inv-search : tie.InvT-search
+Inv-search span k n ends x₀ job₀ finish₀ times₀ x job finish times = (x ≤ n + 1) × (verdict (viewOf k) ≡ rest (viewOf k) x)
+
+abbrev μ-search : tie.MeasureT-search
+μ-search span k n ends x₀ job₀ finish₀ times₀ x job finish times = n + 1 - x
+
+run-to-requires : tie.Need-run-to-requires Inv-loop μ-loop Inv-search μ-search
+run-to-requires c κs = (lo-runs _ (c .before .pre .0), c .before .pre .1)
+
+search-holds : tie.Need-search-holds Inv-loop μ-loop Inv-search μ-search
+search-holds c = (omega arith, rest-start _)
+
+plays-in-requires : tie.Need-plays-in-requires Inv-loop μ-loop Inv-search μ-search
+plays-in-requires c κs = (c .before .before .before .before .before .pre .0, c .search-test .taken)
+
+times-in-requires : tie.Need-times-in-requires Inv-loop μ-loop Inv-search μ-search
+times-in-requires c κs =
+    can-play _ (c .before .before .before .before .before .before .before .pre .0) _ (c .before .before .search-test .taken) (sym (c .before .plays-in .ensures) ∙ c .if1 .taken) _ (c .before .before .before .before .before .run-to .ensures)
+
+run-to-requires-2 : tie.Need-run-to-requires-2 Inv-loop μ-loop Inv-search μ-search
+run-to-requires-2 c κs = (
+  can-run _ (c .before .before .before .before .before .before .before .before .pre .0) _ _ (c .before .before .before .search-test .taken) (sym (c .before .before .plays-in .ensures) ∙ c .before .if1 .taken) (c .times-in .ensures),
+  c .before .before .before .before .before .before .before .before .pre .1,
+)
+
+loop-holds : tie.Need-loop-holds Inv-loop μ-loop Inv-search μ-search
+loop-holds c = (omega arith, λ i q. absurd (omega arith))
+
+mul-finish : tie.Need-mul-finish Inv-loop μ-loop Inv-search μ-search
+mul-finish c = search needs
+
+element-copy-out-finish : tie.Need-element-copy-out-finish Inv-loop μ-loop Inv-search μ-search
+element-copy-out-finish c = search needs
+
+element-copy-out-misses : tie.Need-element-copy-out-misses Inv-loop μ-loop Inv-search μ-search
+element-copy-out-misses c = search needs
+
+mul-misses : tie.Need-mul-misses Inv-loop μ-loop Inv-search μ-search
+mul-misses c = search needs
+
+element-copy-out-misses-2 : tie.Need-element-copy-out-misses-2 Inv-loop μ-loop Inv-search μ-search
+element-copy-out-misses-2 c = search needs
+
+misses-requires : tie.Need-misses-requires Inv-loop μ-loop Inv-search μ-search
+misses-requires c κs = search needs
+
+add-job : tie.Need-add-job Inv-loop μ-loop Inv-search μ-search
+add-job c = search needs
+
+loop-less : tie.Need-loop-less Inv-loop μ-loop Inv-search μ-search
+loop-less c = search needs
+
+loop-again : tie.Need-loop-again Inv-loop μ-loop Inv-search μ-search
+loop-again c = (
+  omega arith,
+  passed-more _ (c .before .before .before .before .before .before .before .before .before .before .before .before .before .before .before .before .pre .0) _ _ (c .before .before .before .before .before .before .loop .inv .1)
+      (missed-turn _ (c .before .before .before .before .before .before .before .before .before .before .before .before .before .before .before .before .pre .0) _ _ _ _ _ (c .before .before .before .before .before .loop-test .taken) (c .before .before .before .before .before .before .before .run-to2 .ensures) (c .before .misses .ensures) (c .if2 .left)),
+)
+
+add-x : tie.Need-add-x Inv-loop μ-loop Inv-search μ-search
+add-x c = search needs
+
+search-less : tie.Need-search-less Inv-loop μ-loop Inv-search μ-search
+search-less c = omega arith
+
+search-again : tie.Need-search-again Inv-loop μ-loop Inv-search μ-search
+search-again c = (
+  omega arith,
+  ⊎-elim
+      (λ w.
+      turn-pass _ (c .before .before .before .before .before .before .before .pre .0) _ _ _ (c .before .before .before .search .inv .1) (c .before .before .search-test .taken) (sym (c .before .plays-in .ensures) ∙ w .0 .taken) (w .1 .ensures)
+      (w .3 .inv .1) (w .4 .left))
+      (λ w. turn-skip _ (c .before .before .before .before .before .before .before .pre .0) _ (c .before .before .before .search .inv .1) (c .before .before .search-test .taken) (sym (c .before .plays-in .ensures) ∙ w .0 .left))
+      (c .if1 .came),
+)
+
+-- where the search has left its loops
+left : (c : tie.Left-search Inv-loop μ-loop Inv-search μ-search)
+    → Found (c .before .before .before .before .before .args .t1) (c .before .search .x) (c .search-test .job) (c .search-test .finish) (c .search-test .times)
+left c =
+    ⊎-elim
+    (λ w. found-fit _ (c .before .before .before .before .before .pre .0) _ _ _ _ (c .before .search .inv .1) (w .0 .left))
+    (λ w.
+    rw (w .12, w .13, w .14)
+    (found-miss _ (c .before .before .before .before .before .pre .0) _ _ _ _ _ _ (c .before .search .inv .1) (w .0 .taken) (sym (w .1 .ensures) ∙ w .2 .taken) (w .3 .ensures) (w .4 .ensures)
+    (w .5 .inv .1) (w .6 .taken) refl (w .10 .ensures) (w .11 .taken)))
+    (c .search-test .came)
+
+scenario-of-requires : tie.Need-scenario-of-requires Inv-loop μ-loop Inv-search μ-search
+scenario-of-requires c κs = search needs
+
+cast-t33 : tie.Need-cast-t33 Inv-loop μ-loop Inv-search μ-search
+cast-t33 c = omega (arith, job-fits _ (c .before .before .before .before .before .before .before .before .pre .0) _ _ _ _ (left (c .before .before .before)) (c .before .before .if3 .taken))
+
+add-t34 : tie.Need-add-t34 Inv-loop μ-loop Inv-search μ-search
+add-t34 c = omega (arith, job-fits _ (c .before .before .before .before .before .before .before .before .pre .0) _ _ _ _ (left (c .before .before .before)) (c .before .before .if3 .taken))
+
+returns : tie.Need-returns Inv-loop μ-loop Inv-search μ-search
+returns c = unfit-is _ (c .before .before .before .before .before .before .before .before .pre .0) _ _ _ _ _ (left (c .before .before .before)) (c .before .before .if3 .taken) (c .before .scenario-of .ensures)
+
+returns-2 : tie.Need-returns-2 Inv-loop μ-loop Inv-search μ-search
+returns-2 c = fit-is _ (c .before .before .before .before .before .before .pre .0) _ _ _ _ (left (c .before)) (c .if3 .left)
+
+pub search-spec : {M : Type 1} → statement M
+search-spec =
+    tie.close
+    (tie.spec
+    Inv-loop μ-loop Inv-search μ-search run-to-requires search-holds plays-in-requires times-in-requires run-to-requires-2 loop-holds mul-finish
+    element-copy-out-finish element-copy-out-misses mul-misses element-copy-out-misses-2 misses-requires add-job loop-less loop-again add-x search-less
+    search-again scenario-of-requires cast-t33 add-t34 returns returns-2)

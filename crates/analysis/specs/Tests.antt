@@ -1,0 +1,47 @@
+-- The scenarios by number, and what the search over them finds.
+--   numbered x          == scenario x: 0 is LO, and j is HI of job j
+--   missedBy            == a finish misses a deadline that the run requires
+--   plays v x           == x is a scenario of the set
+--   Testable k          == full columns of a sound set, with 0 beyond the LO budgets
+--   Playable k x ends   == x is a scenario of it, and ends are the finishes of scenario 0
+--   found v             == the verdict found, with the times beside it
+use Prim.Native.Nat.{ℕ}
+use mathlib.Core.Path.{_≡_}
+use mathlib.Core.Bool.{Bool, true, cond, _&&_, _||_}
+use mathlib.Core.List.{List}
+use lib.Dec.{eqb, ltb}
+use Rattle.model.specs.declared.Scenario.{Scenario}
+use Rattle.model.specs.declared.Scenario.the-variants.{Lo, Hi}
+use Rattle.model.specs.declared.Switch.{Switch}
+use Rattle.model.specs.declared.Switch.the-variants.{Never, At}
+use Rattle.model.specs.declared.Judged.{Judged}
+use Rattle.model.specs.declared.Judgement.the-variants.{Found}
+use Rattle.model.specs.Sets.{View, critical}
+use Rattle.model.specs.Scenarios.{loTimes, verdict, timesBeside}
+use Rattle.laws.proofs.Sound.{Sound}
+use Rattle.analysis.specs.declared.columns.Columns.{Columns}
+use Rattle.analysis.specs.Columns.{viewOf, Full, runOf}
+
+unfoldable pub numbered : ℕ → Scenario
+numbered x = cond (eqb x 0) Lo (Hi x)
+
+unfoldable pub missedBy : Bool → ℕ → ℕ → Switch → Bool
+missedBy critical deadline finish Never = ltb deadline finish
+missedBy critical deadline finish (At t) = critical && ltb deadline finish
+
+-- scenario x is one of the set, where x is at most N
+unfoldable pub plays : View → ℕ → Bool
+plays v x = eqb x 0 || critical (v .policy) x
+
+pub record Testable (k : Columns) : Type 0 where
+  pub full : Full k
+  pub sound : Sound (viewOf k)
+  pub los : k .lo ≡ loTimes (viewOf k)
+
+pub record Playable (k : Columns) (x : ℕ) (ends : List ℕ) : Type 0 where
+  pub testable : Testable k
+  pub scenario : (x ≡ 0 → ⊥) → (viewOf k .policy .part x ≡ true) × (critical (viewOf k .policy) x ≡ true)
+  pub ends-are : ends ≡ runOf (viewOf k) (loTimes (viewOf k)) .finishes
+
+unfoldable pub found : View → Judged
+found v = record { judgement = Found (verdict v); times = timesBeside v (verdict v) }

@@ -1,0 +1,35 @@
+// Which running times a run may have.
+ghost use mathlib.Core.Path.{_≡_};
+ghost use mathlib.Core.Bool.{cond, _&&_};
+ghost use lib.Dec.{leb};
+ghost use lib.ListN.{length};
+ghost use Rattle.analysis.specs.Columns.{viewOf};
+ghost use Rattle.analysis.specs.Tests.{Testable};
+ghost use Rattle.analysis.specs.Ranges.{outside};
+use crate::columns::Columns;
+
+// Whether a time lies in its range: 1 to the LO budget for a LO job, 1 to the HI budget for a HI job.
+fn in_range(critical: bool, lo: u16, hi: u16, time: u16) -> bool
+    ensures { λ r. ⌜ r ≡ (leb 1 time && leb time (cond critical hi lo)) ⌝ }
+{
+    if time < 1 {
+        return false;
+    }
+    if critical { time <= hi } else { time <= lo }
+}
+
+// The lowest job whose running time lies outside its range, 0 where there is none.
+pub fn out_of_range(k: Columns, times: [u16; 64]) -> usize
+    requires { ⌜ Testable k × (length times ≡ 64) ⌝ }
+    ensures { λ r. ⌜ r ≡ outside (viewOf k) times ⌝ }
+{
+    let n = k.n;
+    let mut i: usize = 0;
+    while i < n {
+        if !in_range(k.critical[i], k.lo[i], k.hi[i], times[i]) {
+            return i + 1;
+        }
+        i += 1;
+    }
+    0
+}

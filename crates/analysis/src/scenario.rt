@@ -1,0 +1,134 @@
+// The scenarios of the published test, and the search for the first required miss.
+ghost use mathlib.Core.Path.{_≡_};
+ghost use mathlib.Core.Bool.{cond, _&&_, _||_};
+ghost use Prim.Native.Nat.{_≤_};
+ghost use Rattle.model.specs.Sets.{span as spanOf};
+ghost use Rattle.model.specs.Scenarios.{timesOf};
+ghost use Rattle.analysis.specs.Columns.{viewOf};
+ghost use Rattle.analysis.specs.Tests.{numbered, missedBy, plays, Testable, Playable, found};
+use crate::columns::Columns;
+use crate::engine::Run;
+use crate::engine::run_to;
+use model::Judged;
+use model::Judgement;
+use model::Miss;
+use model::Scenario;
+use model::Switch;
+use model::Verdict;
+
+// Scenario 0 is LO, and scenario j HI of job j.
+fn scenario_of(x: usize) -> Scenario
+    requires { ⌜ x ≤ 64 ⌝ }
+    ensures { λ r. ⌜ r ≡ numbered x ⌝ }
+{
+    if x == 0 {
+        Scenario::Lo
+    } else {
+        Scenario::Hi(x as u16)
+    }
+}
+
+// Whether a finish misses a deadline that the run requires.
+fn misses(critical: bool, deadline: u16, finish: u16, switch: Switch) -> bool
+    ensures { λ r. ⌜ r ≡ missedBy critical deadline finish switch ⌝ }
+{
+    match switch {
+        Switch::Never => deadline < finish,
+        Switch::At(_) => { if critical { deadline < finish } else { false } }
+    }
+}
+
+// Whether x is a scenario of the set: LO, or HI of a HI job.
+pub fn plays_in(k: Columns, x: usize) -> bool
+    requires { ⌜ Testable k × (x ≤ k .n) ⌝ }
+    ensures { λ r. ⌜ r ≡ plays (viewOf k) x ⌝ }
+{
+    if x == 0 {
+        return true;
+    }
+    k.critical[x - 1]
+}
+
+// The running time of a job in a HI scenario, where `own` says that the scenario is the job's own, and `after` that it ends later in scenario 0.
+fn raised(critical: bool, own: bool, after: bool, lo: u16, hi: u16) -> u16
+    ensures { λ r. ⌜ r ≡ cond (critical && (own || after)) hi lo ⌝ }
+{
+    if critical {
+        if own {
+            return hi;
+        }
+        if after {
+            return hi;
+        }
+    }
+    lo
+}
+
+// The running times of scenario x, from the finishes of scenario 0: a HI job that is x, or ends there after x, has its HI budget.
+pub fn times_in(k: Columns, x: usize, ends: [u16; 64]) -> [u16; 64]
+    requires { ⌜ Playable k x ends ⌝ }
+    ensures { λ r. ⌜ r ≡ timesOf (viewOf k) (numbered x) ⌝ }
+{
+    let n = k.n;
+    let lo = k.lo;
+    if x == 0 {
+        return lo;
+    }
+    let turn = ends[x - 1];
+    let mut times = [0u16; 64];
+    let mut i: usize = 0;
+    while i < n {
+        let own = i + 1 == x;
+        let after = turn < ends[i];
+        times[i] = raised(k.critical[i], own, after, lo[i], k.hi[i]);
+        i += 1;
+    }
+    times
+}
+
+// The verdict, with the times beside it. The search leaves the loop over the jobs and the loop over the scenarios together.
+pub fn search(k: Columns, span: u16) -> Judged
+    requires { ⌜ Testable k × (span ≡ spanOf (viewOf k)) ⌝ }
+    ensures { λ r. ⌜ r ≡ found (viewOf k) ⌝ }
+{
+    let n = k.n;
+    let lo = k.lo;
+    let first = run_to(k, lo, span);
+    let ends = first.finishes;
+    let mut x: usize = 0;
+    let mut job: usize = 0;
+    let mut finish: u16 = 0;
+    let mut times = [0u16; 64];
+    'search: while x <= n {
+        if plays_in(k, x) {
+            times = times_in(k, x, ends);
+            let r = run_to(k, times, span);
+            job = 0;
+            while job < n {
+                let switch = r.switch;
+                finish = r.finishes[job];
+                if misses(k.critical[job], k.deadlines[job], finish, switch) {
+                    break 'search;
+                }
+                job += 1;
+            }
+        }
+        x += 1;
+    }
+    if x <= n {
+        let scenario = scenario_of(x);
+        let miss = Miss {
+            scenario,
+            job: job as u16 + 1,
+            finish,
+        };
+        return Judged {
+            judgement: Judgement::Found(Verdict::Unfit(miss)),
+            times,
+        };
+    }
+    Judged {
+        judgement: Judgement::Found(Verdict::Fit),
+        times: [0u16; 64],
+    }
+}

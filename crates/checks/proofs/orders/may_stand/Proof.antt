@@ -1,0 +1,25 @@
+-- `checks::orders::may_stand` meets its contract, by each case of the match. Assumes nothing.
+use borrow.Author.Needs.{needs}
+use Rattle.model.specs.Sets.{isHi}
+use Rattle.checks.proofs.orders.may_stand.Statement.{statement}
+use Rattle.checks.proofs.orders.may_stand.Tie as tie
+
+enum-told : tie.Need-enum-told
+enum-told c = search needs
+
+enum-told-2 : tie.Need-enum-told-2
+enum-told-2 c = search needs
+
+is-hi-requires : tie.Need-is-hi-requires
+is-hi-requires c κs = search needs
+
+returns : tie.Need-returns
+unfolding isHi
+returns c = cc
+
+returns-2 : tie.Need-returns-2
+unfolding isHi
+returns-2 c = cc
+
+pub may-stand-spec : {M : Type 1} → statement M
+may-stand-spec = tie.close (tie.spec enum-told enum-told-2 is-hi-requires returns returns-2)

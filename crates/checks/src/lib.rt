@@ -1,0 +1,50 @@
+// Refusals 2 to 7 of document 01, and the span.
+ghost use mathlib.Core.Path.{_≡_};
+ghost use Rattle.model.specs.Sets.{view, span};
+ghost use Rattle.model.specs.Refusals.{refusal};
+
+mod jobs;
+mod orders;
+mod refusals;
+
+use jobs::later;
+use jobs::places;
+use jobs::wide;
+use model::GOOD;
+use model::Refusal;
+use model::Set;
+use refusals::check_count;
+use refusals::check_jobs;
+use refusals::check_orders;
+
+// The first refusal by checks 2 to 7 that applies to the set, with its place; number 0 where none does.
+pub fn refusal_of(s: Set) -> Refusal
+    ensures { λ r. ⌜ r ≡ refusal (view s) ⌝ }
+{
+    let count = check_count(s);
+    if count.number != GOOD {
+        return count;
+    }
+    let jobs = check_jobs(s);
+    if jobs.number != GOOD {
+        return jobs;
+    }
+    check_orders(s)
+}
+
+// The span: the largest arrival plus the sum of all HI budgets.
+pub fn span_of(s: Set) -> u64
+    ensures { λ r. ⌜ r ≡ span (view s) ⌝ }
+{
+    let n = places(s.count);
+    let mut latest: u64 = 0;
+    let mut work: u64 = 0;
+    let mut i = 0;
+    while i < n {
+        let j = s.jobs[i];
+        latest = later(latest, wide(j.arrival));
+        work += wide(j.hi);
+        i += 1;
+    }
+    latest + work
+}
