@@ -1,5 +1,4 @@
 -- Laws that the proofs of the analysis cite.
-pub mod Ready
 pub mod Fill
 pub mod Jobs
 pub mod Views
@@ -16,7 +15,6 @@ pub mod RowLaws
 pub mod Signed
 pub mod Room
 pub mod Slots
-pub mod PartLaws
 pub mod Tables
 pub mod AnswerLaws
 pub mod TableAnswers

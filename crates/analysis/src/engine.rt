@@ -1,17 +1,15 @@
 // The engine: one step of a run, and the run to the span. Every run of the analysis, and the LO table, goes by this step.
 ghost use mathlib.Core.Path.{_≡_};
-ghost use Prim.Native.Nat.{suc, _≤_};
+ghost use Prim.Native.Nat.{_≤_};
 ghost use lib.ListN.{length};
-ghost use Rattle.model.specs.Lists.{at};
 ghost use Rattle.model.specs.Sets.{span as spanOf};
-ghost use Rattle.model.specs.Runs.{ready};
-ghost use Rattle.model.specs.Answers.{lentPick};
 ghost use Rattle.analysis.specs.Columns.{listed, viewOf, anyOverrun, slotOf, Accountable, switched, accounted, Steppable, next, startOf, Runnable, runOf};
 use crate::columns::Columns;
 use model::Level;
 use model::Pick;
 use model::State;
 use model::Switch;
+use picks::pick;
 
 // How far a run has come: its state, who got the last slot, the switch so far, and the finishes so far, 0 where there is none.
 pub struct Progress {
@@ -25,41 +23,6 @@ pub struct Progress {
 pub struct Run {
     pub finishes: [u16; 64],
     pub switch: Switch,
-}
-
-// Whether a number names a job that has arrived by an instant and is not done.
-fn is_ready(arrivals: &[u16], done: &[bool], t: u16, j: u16) -> bool
-    ensures { λ r. ⌜ r ≡ ready (λ i. at (now (arrivals .entry)) i (suc t)) (now (done .entry)) t j ⌝ }
-{
-    let k = j as usize;
-    if k == 0 {
-        return false;
-    }
-    if arrivals.len() < k {
-        return false;
-    }
-    if done.len() < k {
-        return false;
-    }
-    if t < arrivals[k - 1] {
-        return false;
-    }
-    !done[k - 1]
-}
-
-// The first job of an order that has arrived by an instant and is not done, or idle. An entry that names no job is passed over.
-pub fn pick(order: &[u16], arrivals: &[u16], done: &[bool], t: u16) -> Pick
-    ensures { λ r. ⌜ r ≡ lentPick (now (order .entry)) (now (arrivals .entry)) (now (done .entry)) t ⌝ }
-{
-    let mut i: usize = 0;
-    while i < order.len() {
-        let j = order[i];
-        if is_ready(arrivals, done, t, j) {
-            return Pick::Job(j);
-        }
-        i += 1;
-    }
-    Pick::Idle
 }
 
 // Whether a HI job has had exactly its LO budget and is not done.

@@ -10,7 +10,6 @@ ghost use Rattle.model.specs.Answers.{judged, finishRows, worsts as worstsOf, m
 
 mod columns;
 mod engine;
-mod parts;
 mod range;
 mod rows;
 mod scenario;
@@ -19,7 +18,6 @@ mod table;
 use checks::refusal_of;
 use checks::span_of;
 use columns::columns_of;
-pub use engine::pick;
 use engine::run_to;
 use model::GOOD;
 use model::Judged;
@@ -32,6 +30,7 @@ use model::Set;
 use model::Switch;
 pub use parts::part;
 pub use parts::part_refusal;
+pub use picks::pick;
 use range::out_of_range;
 use rows::margins_of;
 use rows::rows_of;

@@ -1,8 +1,8 @@
 -- `part_refusal` meets its contract by the test that the definition makes.
 -- Assumes nothing.
-use Rattle.analysis.proofs.PartLaws.{instant-past, instant-within}
-use Rattle.analysis.proofs.parts.part_refusal.Statement.{statement}
-use Rattle.analysis.proofs.parts.part_refusal.Tie as tie
+use Rattle.parts.proofs.PartLaws.{instant-past, instant-within}
+use Rattle.parts.proofs.part_refusal.Statement.{statement}
+use Rattle.parts.proofs.part_refusal.Tie as tie
 
 returns : tie.Need-returns
 returns c = instant-past _ _ (c .if1 .taken)

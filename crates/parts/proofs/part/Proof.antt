@@ -1,9 +1,9 @@
 -- `part` meets its contract: the slice that is cut off is the part, and past the end both are empty.
 -- Assumes nothing.
 use borrow.Author.Needs.{needs}
-use Rattle.analysis.proofs.PartLaws.{part-past, part-within}
-use Rattle.analysis.proofs.parts.part.Statement.{statement}
-use Rattle.analysis.proofs.parts.part.Tie as tie
+use Rattle.parts.proofs.PartLaws.{part-past, part-within}
+use Rattle.parts.proofs.part.Statement.{statement}
+use Rattle.parts.proofs.part.Tie as tie
 
 mul-result : tie.Need-mul-result
 mul-result c = search needs

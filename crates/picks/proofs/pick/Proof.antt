@@ -5,9 +5,9 @@ use mathlib.Core.Path.{refl, sym, _∙_}
 use native.Mathlib.Omega.{arith}
 use lib.ListN.{length}
 use borrow.Author.Needs.{needs}
-use Rattle.analysis.proofs.Ready.{Left, pick-found, pick-next, pick-none}
-use Rattle.analysis.proofs.engine.pick.Statement.{statement}
-use Rattle.analysis.proofs.engine.pick.Tie as tie
+use Rattle.picks.proofs.Ready.{Left, pick-found, pick-next, pick-none}
+use Rattle.picks.proofs.pick.Statement.{statement}
+use Rattle.picks.proofs.pick.Tie as tie
 
 abbrev Inv-loop : tie.InvT-loop
 Inv-loop order arrivals done t i₀ i = (i ≤ length order) × Left order arrivals done t i

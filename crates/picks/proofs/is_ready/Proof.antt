@@ -3,9 +3,9 @@
 use mathlib.Core.Path.{sym}
 use native.Mathlib.Omega.{arith}
 use borrow.Author.Needs.{needs}
-use Rattle.analysis.proofs.Ready.{ready-zero, ready-nameless, ready-placeless, ready-early, ready-come}
-use Rattle.analysis.proofs.engine.is_ready.Statement.{statement}
-use Rattle.analysis.proofs.engine.is_ready.Tie as tie
+use Rattle.picks.proofs.Ready.{ready-zero, ready-nameless, ready-placeless, ready-early, ready-come}
+use Rattle.picks.proofs.is_ready.Statement.{statement}
+use Rattle.picks.proofs.is_ready.Tie as tie
 
 returns : tie.Need-returns
 returns c = sym (ready-zero _ _ _ _ (c .if1 .taken))

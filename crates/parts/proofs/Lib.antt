@@ -1,0 +1,2 @@
+-- Laws that the proofs of the part cite.
+pub mod PartLaws

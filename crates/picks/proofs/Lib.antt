@@ -1,0 +1,2 @@
+-- Laws that the proofs of the pick cite.
+pub mod Ready
