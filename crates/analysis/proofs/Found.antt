@@ -15,14 +15,13 @@ use lib.ListN.{getD, replicate}
 use Rattle.model.specs.declared.Miss.{Miss}
 use Rattle.model.specs.declared.Judged.{Judged}
 use Rattle.model.specs.declared.Judgement.the-variants.{Found as FoundVerdict}
-use Rattle.model.specs.declared.Scenario.{Scenario}
 use Rattle.model.specs.declared.Verdict.the-variants.{Fit, Unfit}
 use Rattle.model.specs.Runs.{mark, outcomeIn}
 use Rattle.model.specs.Scenarios.{zeros, timesOf, finishIn, lateIn, verdict, timesBeside}
 use Rattle.analysis.specs.declared.columns.Columns.{Columns}
 use Rattle.analysis.specs.declared.engine.Run.{Run}
 use Rattle.analysis.specs.Columns.{viewOf, runOf}
-use Rattle.analysis.specs.Tests.{numbered, missedBy, plays, Testable, found}
+use Rattle.analysis.specs.Tests.{numbered, missedBy, plays, Testable, unfitIn, found}
 use Rattle.analysis.proofs.Search.{rest, rest-skip, rest-pass, rest-fail, rest-end, Passed, part-e, finish-is, late-none, late-is, plays-in, plays-out, missed-turn}
 
 -- the answer where job j ends at f in scenario x
@@ -81,11 +80,10 @@ module _ (k : Columns) (h : Testable k) where
         g,
       )
 
-  pub unfit-is : (x job f : ℕ) (c : List ℕ) (y : Scenario) → Found k x job f c → x ≤ k .n → y ≡ numbered x
-      → _≡_ {A = Judged} (record { judgement = FoundVerdict (Unfit (record { scenario = y; job = job + 1; finish = f })); times = c }) (found (viewOf k))
-  unfolding found timesBeside
-  unfit-is x job f c y (inl z) q e = absurd (omega (arith, z .0))
-  unfit-is x job f c y (inr z) q e = rw (z .2, z .3, e) refl
+  pub unfit-is : (x job f : ℕ) (c : List ℕ) (r : Judged) → Found k x job f c → x ≤ k .n → r ≡ unfitIn x job f c → r ≡ found (viewOf k)
+  unfolding found unfitIn timesBeside
+  unfit-is x job f c r (inl z) q e = absurd (omega (arith, z .0))
+  unfit-is x job f c r (inr z) q e = e ∙ rw (z .2, z .3) refl
 
   pub fit-is : (x job f : ℕ) (c : List ℕ) → Found k x job f c → k .n < x
       → _≡_ {A = Judged} (record { judgement = FoundVerdict Fit; times = replicate 64 0 }) (found (viewOf k))

@@ -4,8 +4,9 @@
 --   plays v x           == x is a scenario of the set
 --   Testable k          == full columns of a sound set, with 0 beyond the LO budgets
 --   Playable k x ends   == x is a scenario of it, and ends are the finishes of scenario 0
+--   unfitIn x job f c   == the unfit answer: job + 1, its finish f, in scenario x with times c
 --   found v             == the verdict found, with the times beside it
-use Prim.Native.Nat.{ℕ}
+use Prim.Native.Nat.{ℕ, _+_}
 use mathlib.Core.Path.{_≡_}
 use mathlib.Core.Bool.{Bool, true, cond, _&&_, _||_}
 use mathlib.Core.List.{List}
@@ -16,6 +17,7 @@ use Rattle.model.specs.declared.Switch.{Switch}
 use Rattle.model.specs.declared.Switch.the-variants.{Never, At}
 use Rattle.model.specs.declared.Judged.{Judged}
 use Rattle.model.specs.declared.Judgement.the-variants.{Found}
+use Rattle.model.specs.declared.Verdict.the-variants.{Unfit}
 use Rattle.model.specs.Sets.{View, critical}
 use Rattle.model.specs.Scenarios.{loTimes, verdict, timesBeside}
 use Rattle.laws.proofs.Sound.{Sound}
@@ -42,6 +44,10 @@ pub record Playable (k : Columns) (x : ℕ) (ends : List ℕ) : Type 0 where
   pub testable : Testable k
   pub scenario : (x ≡ 0 → ⊥) → (viewOf k .policy .part x ≡ true) × (critical (viewOf k .policy) x ≡ true)
   pub ends-are : ends ≡ runOf (viewOf k) (loTimes (viewOf k)) .finishes
+
+-- job + 1 ends at f, late, in scenario x
+unfoldable pub unfitIn : ℕ → ℕ → ℕ → List ℕ → Judged
+unfitIn x job f c = record { judgement = Found (Unfit (record { scenario = numbered x; job = job + 1; finish = f })); times = c }
 
 unfoldable pub found : View → Judged
 found v = record { judgement = Found (verdict v); times = timesBeside v (verdict v) }

@@ -1,11 +1,11 @@
 // The scenarios of the published test, and the search for the first required miss.
 ghost use mathlib.Core.Path.{_≡_};
 ghost use mathlib.Core.Bool.{cond, _&&_, _||_};
-ghost use Prim.Native.Nat.{_≤_};
+ghost use Prim.Native.Nat.{_≤_, _<_};
 ghost use Rattle.model.specs.Sets.{span as spanOf};
 ghost use Rattle.model.specs.Scenarios.{timesOf};
 ghost use Rattle.analysis.specs.Columns.{viewOf};
-ghost use Rattle.analysis.specs.Tests.{numbered, missedBy, plays, Testable, Playable, found};
+ghost use Rattle.analysis.specs.Tests.{numbered, missedBy, plays, Testable, Playable, unfitIn, found};
 use crate::columns::Columns;
 use crate::engine::Run;
 use crate::engine::run_to;
@@ -86,6 +86,23 @@ pub fn times_in(k: Columns, x: usize, ends: [u16; 64]) -> [u16; 64]
     times
 }
 
+// The answer where job + 1 ends at the finish given, late, in scenario x.
+fn unfit_in(x: usize, job: usize, finish: u16, times: [u16; 64]) -> Judged
+    requires { ⌜ (x ≤ 64) × (job < 64) ⌝ }
+    ensures { λ r. ⌜ r ≡ unfitIn x job finish times ⌝ }
+{
+    let scenario = scenario_of(x);
+    let miss = Miss {
+        scenario,
+        job: job as u16 + 1,
+        finish,
+    };
+    Judged {
+        judgement: Judgement::Found(Verdict::Unfit(miss)),
+        times,
+    }
+}
+
 // The verdict, with the times beside it. The search leaves the loop over the jobs and the loop over the scenarios together.
 pub fn search(k: Columns, span: u16) -> Judged
     requires { ⌜ Testable k × (span ≡ spanOf (viewOf k)) ⌝ }
@@ -116,16 +133,7 @@ pub fn search(k: Columns, span: u16) -> Judged
         x += 1;
     }
     if x <= n {
-        let scenario = scenario_of(x);
-        let miss = Miss {
-            scenario,
-            job: job as u16 + 1,
-            finish,
-        };
-        return Judged {
-            judgement: Judgement::Found(Verdict::Unfit(miss)),
-            times,
-        };
+        return unfit_in(x, job, finish, times);
     }
     Judged {
         judgement: Judgement::Found(Verdict::Fit),

@@ -107,17 +107,12 @@ left c =
     (w .5 .inv .1) (w .6 .taken) refl (w .10 .ensures) (w .11 .taken)))
     (c .search-test .came)
 
-scenario-of-requires : tie.Need-scenario-of-requires Inv-loop μ-loop Inv-search μ-search
-scenario-of-requires c κs = search needs
-
-cast-t33 : tie.Need-cast-t33 Inv-loop μ-loop Inv-search μ-search
-cast-t33 c = omega (arith, job-fits _ (c .before .before .before .before .before .before .before .before .pre .0) _ _ _ _ (left (c .before .before .before)) (c .before .before .if3 .taken))
-
-add-t34 : tie.Need-add-t34 Inv-loop μ-loop Inv-search μ-search
-add-t34 c = omega (arith, job-fits _ (c .before .before .before .before .before .before .before .before .pre .0) _ _ _ _ (left (c .before .before .before)) (c .before .before .if3 .taken))
+unfit-in-requires : tie.Need-unfit-in-requires Inv-loop μ-loop Inv-search μ-search
+unfit-in-requires c κs =
+    (omega (arith, c .before .before .before .before .before .before .pre .0 .full .n, c .if3 .taken), job-fits _ (c .before .before .before .before .before .before .pre .0) _ _ _ _ (left (c .before)) (c .if3 .taken))
 
 returns : tie.Need-returns Inv-loop μ-loop Inv-search μ-search
-returns c = unfit-is _ (c .before .before .before .before .before .before .before .before .pre .0) _ _ _ _ _ (left (c .before .before .before)) (c .before .before .if3 .taken) (c .before .scenario-of .ensures)
+returns c = unfit-is _ (c .before .before .before .before .before .before .before .pre .0) _ _ _ _ _ (left (c .before .before)) (c .before .if3 .taken) (c .unfit-in .ensures)
 
 returns-2 : tie.Need-returns-2 Inv-loop μ-loop Inv-search μ-search
 returns-2 c = fit-is _ (c .before .before .before .before .before .before .pre .0) _ _ _ _ (left (c .before)) (c .if3 .left)
@@ -128,4 +123,4 @@ search-spec =
     (tie.spec
     Inv-loop μ-loop Inv-search μ-search run-to-requires search-holds plays-in-requires times-in-requires run-to-requires-2 loop-holds mul-finish
     element-copy-out-finish element-copy-out-misses mul-misses element-copy-out-misses-2 misses-requires add-job loop-less loop-again add-x search-less
-    search-again scenario-of-requires cast-t33 add-t34 returns returns-2)
+    search-again unfit-in-requires returns returns-2)
