@@ -1,23 +1,24 @@
 -- How the rows, the worst finishes and the margins are filled.
 --   rowsTo v x        == the rows before row x, and nothing in the others
 --   rows-start, rows-set, rows-turn, rows-keep, rows-end   == a turn of the loop over the rows
---   largest-none, largest-from == the largest of the rows from x on
---   worst-.., worsts-.., margins-..  == what the code works out for a job is the model's, and a turn of the loop over the jobs
+--   worstTo v x j     == job j's worst finish over the rows before row x
+--   raise-..          == the loop that raises the worst finishes by one more run
+--   worsts-..         == the loop over the HI scenarios: before it, a turn with a run and one without, and after it
+--   margins-..        == the loop over the jobs' margins
 -- Assumes nothing.
 use Prim.Native.Nat.{ℕ, zero, suc, _+_, _-_, _≤_, _<_, max}
 use mathlib.Core.Path.{_≡_, refl, sym, _∙_, ap, subst}
-use mathlib.Core.Bool.{Bool, true, false, cond, _&&_}
+use mathlib.Core.Bool.{true, false, cond}
 use mathlib.Core.List.{List, [], _∷_}
 use mathlib.Core.Logic.{⊎-elim}
 use native.Mathlib.Omega.{arith}
 use native.Mathlib.Numerals.{add-one}
 use lib.Dec.{leb}
 use lib.IntN.{ℤ, pos, _-ℤ_}
-use lib.ListN.{length, getD, drop, set, replicate, length-replicate, drop-of-length-le}
-use lib.Seq.{drop-cons}
-use Rattle.model.specs.declared.Scenario.{Scenario}
-use Rattle.model.specs.declared.Scenario.the-variants.{Lo, Hi}
-use Rattle.model.specs.Lists.{at, numbers, from, largest}
+use lib.ListN.{length, getD, set, replicate, length-replicate, getD-replicate}
+use borrow.Author.Tests.{lt-leb}
+use Rattle.model.specs.declared.Scenario.the-variants.{Lo}
+use Rattle.model.specs.Lists.{at, largest}
 use Rattle.model.specs.Sets.{View, critical}
 use Rattle.model.specs.Scenarios.{places, zeros, timesOf, finishIn, row, hiRow, rows, worst, margin}
 use Rattle.laws.proofs.Bools.{tests, split, and-i, and-no-l}
@@ -26,9 +27,9 @@ use Rattle.analysis.specs.declared.columns.Columns.{Columns}
 use Rattle.analysis.specs.declared.engine.Run.{Run}
 use Rattle.analysis.specs.Columns.{viewOf, listed, runOf}
 use Rattle.analysis.specs.Tests.{numbered, plays, Testable}
-use Rattle.analysis.specs.Rows.{RowsOf, largestAt, worstAt, marginsIn}
-use Rattle.analysis.proofs.Fill.{map-same, map-length, map-at, upTo, upTo-more, upTo-zero, mixed, mixed-set, mixed-keep, upTo-places}
-use Rattle.analysis.proofs.Search.{plays-in, plays-out, numbered-suc, part-is, part-e, critical-is, deadline-is}
+use Rattle.analysis.specs.Rows.{worseIn, marginsIn}
+use Rattle.analysis.proofs.Fill.{map-same, map-at, upTo, upTo-length, upTo-more, upTo-zero, mixed, mixed-set, mixed-keep, upTo-places}
+use Rattle.analysis.proofs.Search.{plays-in, plays-out, plays-zero, numbered-suc, part-is, part-e, critical-is, deadline-is}
 
 -- the run of scenario x ends as its row says
 row-is : (v : View) (x : ℕ) → runOf v (timesOf v (numbered x)) .finishes ≡ row v (numbered x)
@@ -38,6 +39,18 @@ row-is v x = refl
 pub rowsTo : View → ℕ → List (List ℕ)
 rowsTo v zero = replicate 65 zeros
 rowsTo v (suc k) = row v Lo ∷ upTo k (hiRow v) zeros
+
+-- 65 rows, and nothing in row x
+rows-to-length : (v : View) (x : ℕ) → length (rowsTo v x) ≡ 65
+unfolding rowsTo
+rows-to-length v zero = length-replicate 65 zeros
+rows-to-length v (suc i) = ap suc (upTo-length i (hiRow v) zeros)
+
+rows-to-at : (v : View) (x : ℕ) → x < 65 → getD (rowsTo v x) x zeros ≡ zeros
+unfolding rowsTo upTo
+rows-to-at v zero q = getD-replicate 65 0 zeros zeros (omega arith)
+rows-to-at v (suc i) q =
+    map-at (λ j. cond (leb j i) (hiRow v j) zeros) i zeros (omega arith) ∙ rw (lt-leb (suc i) i (omega arith)) refl
 
 module _ (k : Columns) (h : Testable k) where
   pub rows-start : replicate 65 zeros ≡ rowsTo (viewOf k) 0
@@ -86,35 +99,31 @@ module _ (k : Columns) (h : Testable k) where
       let out : v .policy .part j ≡ false = split (v .policy .part j) (λ a. absurd (omega (tests, f, part-e k h j a))) (λ a. a) in
       rw f (sym (rw (and-no-l (critical (v .policy) j) out) refl))))))
 
--- the largest of the rows from x on, row by row, from the last
-pub largest-none : (l : List (List ℕ)) (i : ℕ) → RowsOf l → 0 ≡ largestAt (drop 65 l) i
-unfolding largestAt largest
-largest-none l i r = sym (ap (largest (λ r. getD r i 0)) (drop-of-length-le l {i = 65} (omega (arith, r .rows))))
-
-pub largest-from : (l : List (List ℕ)) (i x w f : ℕ) → RowsOf l → 0 < x → x ≤ 65 → w ≡ largestAt (drop x l) i → f ≡ getD (getD l (x - 1) []) i 0
-    → max f w ≡ largestAt (drop (x - 1) l) i
-unfolding largestAt largest
-largest-from l i x w f r p q e g =
-    let at-i : List ℕ → ℕ = λ r. getD r i 0 in
-    let s : x ≡ suc (x - 1) = omega arith in
-    rw (g, e)
-    (ap (λ n. max (getD (getD l (x - 1) []) i 0) (largest at-i (drop n l))) s
-    ∙ sym (ap (largest at-i) (drop-cons l (x - 1) [] (omega (arith, r .rows)))))
-
 -- the worst finish of a job ----------------------------------------------------------------------------------------------------------
 
-pub worst-hi : (b : Bool) (l : List (List ℕ)) (i w : ℕ) → b ≡ true → w ≡ largestAt l i → w ≡ worstAt b l i
-unfolding worstAt
-worst-hi b l i w e f = f ∙ sym (rw e refl)
+zero-max : (a : ℕ) → max 0 a ≡ a
+zero-max a = omega arith
 
-pub worst-lo : (b : Bool) (l : List (List ℕ)) (i : ℕ) → b ≡ false → getD (getD l 0 []) i 0 ≡ worstAt b l i
-unfolding worstAt
-worst-lo b l i e = sym (rw e refl)
+at-zeros : (i : ℕ) → i < 64 → at zeros (suc i) 0 ≡ 0
+unfolding zeros
+at-zeros i q = at-suc zeros i 0 ∙ getD-replicate 64 i 0 0 q
 
-largest-same : (f g : List ℕ → ℕ) (l : List (List ℕ)) → ((r : List ℕ) → f r ≡ g r) → largest f l ≡ largest g l
+-- the largest, where an entry that counts nothing is stored over
+largest-set {ℓ} : {A : Type ℓ} (f : A → ℕ) (l : List A) (x : ℕ) (r d : A) → x < length l → f (getD l x d) ≡ 0
+    → largest f (set l x r) ≡ max (largest f l) (f r)
 unfolding largest
-largest-same f g [] e = refl
-largest-same f g (r ∷ l) e = rw (e r, largest-same f g l e) refl
+largest-set f [] x r d q z = absurd (omega arith)
+largest-set f (y ∷ l) zero r d q z = rw z (omega arith)
+largest-set f (y ∷ l) (suc x) r d q z = rw (largest-set f l x r d (omega arith) z) (omega arith)
+
+largest-zeros : (i n : ℕ) → i < 64 → largest (λ r. at r (suc i) 0) (replicate n zeros) ≡ 0
+unfolding largest
+largest-zeros i zero q = refl
+largest-zeros i (suc n) q = rw (at-zeros i q, largest-zeros i n q) refl
+
+-- job j's worst finish over the rows before row x
+pub worstTo : View → ℕ → ℕ → ℕ
+worstTo v x j = cond (critical (v .policy) j) (largest (λ r. at r j 0) (rowsTo v x)) (finishIn v Lo j)
 
 module _ (k : Columns) (h : Testable k) where
   -- what stands for job i + 1 in a list that the view fills
@@ -123,25 +132,77 @@ module _ (k : Columns) (h : Testable k) where
   place-is f i q =
       map-at (λ j. cond (viewOf k .policy .part j) (f j) 0) i 0 (omega (arith, h .full .n)) ∙ rw (part-is k h i q) refl
 
-  worst-is : (i : ℕ) → i < k .n → worstAt (getD (k .critical) i false) (rows (viewOf k)) i ≡ worst (viewOf k) (suc i)
-  unfolding worstAt largestAt worst rows row
-  worst-is i q =
-      let v = viewOf k in
-      ap (λ b. cond b (largest (λ r. getD r i 0) (rows v)) (getD (row v Lo) i 0)) (sym (critical-is k h i))
-      ∙ ap (λ w. cond (critical (v .policy) (suc i)) w (getD (row v Lo) i 0))
-      (largest-same (λ r. getD r i 0) (λ r. at r (suc i) 0) (rows v) (λ r. sym (at-suc r i 0)))
-      ∙ ap (λ w. cond (critical (v .policy) (suc i)) (largest (λ r. at r (suc i) 0) (rows v)) w) (place-is (finishIn v Lo) i q)
+  -- a turn of the loop that raises the worst finishes, and its end
+  pub raise-more : (w f l : List ℕ) (i y : ℕ) → l ≡ upTo i (worseIn (viewOf k) w f) 0 → i < k .n
+      → y ≡ cond (getD (k .critical) i false) (max (getD w i 0) (getD f i 0)) (getD w i 0) → set l i y ≡ upTo (i + 1) (worseIn (viewOf k) w f) 0
+  unfolding worseIn
+  raise-more w f l i y e q z =
+      upTo-more l i (worseIn (viewOf k) w f) y 0 e (omega (arith, h .full .n))
+      (z ∙ sym (rw (critical-is k h i, at-suc w i 0, at-suc f i 0) refl))
 
-  -- a turn of the loop over the jobs
-  pub worsts-more : (l : List ℕ) (x : List (List ℕ)) (i w : ℕ) → l ≡ upTo i (worst (viewOf k)) 0 → i < k .n → x ≡ rows (viewOf k)
-      → w ≡ worstAt (getD (k .critical) i false) x i → set l i w ≡ upTo (i + 1) (worst (viewOf k)) 0
-  worsts-more l x i w e q r f =
-      upTo-more l i (worst (viewOf k)) w 0 e (omega (arith, h .full .n))
-      (f ∙ ap (λ y. worstAt (getD (k .critical) i false) y i) r ∙ worst-is i q)
-
-  pub worsts-all : (l : List ℕ) (i : ℕ) → l ≡ upTo i (worst (viewOf k)) 0 → i ≡ k .n → l ≡ places (viewOf k) (worst (viewOf k))
+  pub raise-all : (f : ℕ → ℕ) (l : List ℕ) (i : ℕ) → l ≡ upTo i f 0 → i ≡ k .n → l ≡ places (viewOf k) f
   unfolding places viewOf listed
-  worsts-all l i e z = e ∙ ap (λ n. upTo n (worst (viewOf k)) 0) z ∙ upTo-places (k .n) (worst (viewOf k)) 0
+  raise-all f l i e z = e ∙ ap (λ n. upTo n f 0) z ∙ upTo-places (k .n) f 0
+
+  -- two fillings are equal that agree at the jobs
+  places-same : (f g : ℕ → ℕ) → ((i : ℕ) → i < k .n → f (suc i) ≡ g (suc i)) → places (viewOf k) f ≡ places (viewOf k) g
+  unfolding places
+  places-same f g e =
+      let v = viewOf k in
+      map-same (λ j. cond (v .policy .part j) (f j) 0) (λ j. cond (v .policy .part j) (g j) 0)
+      (λ j p q. split (v .policy .part j)
+      (λ a. rw a (subst (λ n. f n ≡ g n) (omega arith) (e (j - 1) (omega (arith, part-e k h j a)))))
+      (λ a. rw a refl))
+
+  -- the row that a run of scenario x brings is stored over nothing
+  largest-more : (x i : ℕ) → x ≤ k .n → i < k .n → plays (viewOf k) x ≡ true
+      → largest (λ r. at r (suc i) 0) (rowsTo (viewOf k) (x + 1))
+      ≡ max (largest (λ r. at r (suc i) 0) (rowsTo (viewOf k) x)) (at (row (viewOf k) (numbered x)) (suc i) 0)
+  largest-more x i q l p =
+      let v = viewOf k in
+      ap (largest (λ r. at r (suc i) 0)) (sym (rows-set k h x q p))
+      ∙ largest-set (λ r. at r (suc i) 0) (rowsTo v x) x (row v (numbered x)) zeros (omega (arith, rows-to-length v x, h .full .n))
+      (ap (λ r. at r (suc i) 0) (rows-to-at v x (omega (arith, h .full .n))) ∙ at-zeros i (omega (arith, h .full .n)))
+
+  -- before the loop over the HI scenarios, its turns, and after it
+  pub worsts-start : (r : Run) → r ≡ runOf (viewOf k) (k .lo) → r .finishes ≡ places (viewOf k) (worstTo (viewOf k) 1)
+  unfolding worstTo rowsTo row numbered timesOf
+  worsts-start r e =
+      let v = viewOf k in
+      ap (λ (y : Run). y .finishes) e ∙ ap (λ c. runOf v c .finishes) (h .los) ∙ row-is v 0
+      ∙ places-same (finishIn v Lo) (worstTo v 1)
+      (λ i q. split (critical (v .policy) (suc i))
+      (λ a. rw a
+      (sym (largest-more 0 i (omega arith) q (plays-zero k h 0 refl)
+      ∙ rw (largest-zeros i 65 (omega (arith, h .full .n))) (zero-max (at (row v Lo) (suc i) 0) ∙ at-suc (row v Lo) i 0 ∙ place-is (finishIn v Lo) i q))))
+      (λ a. rw a refl))
+
+  pub worsts-more : (w m : List ℕ) (x : ℕ) (r : Run) (c : List ℕ) → w ≡ places (viewOf k) (worstTo (viewOf k) x) → x ≤ k .n
+      → plays (viewOf k) x ≡ true → c ≡ timesOf (viewOf k) (numbered x) → r ≡ runOf (viewOf k) c
+      → m ≡ places (viewOf k) (worseIn (viewOf k) w (r .finishes)) → m ≡ places (viewOf k) (worstTo (viewOf k) (x + 1))
+  unfolding worseIn worstTo
+  worsts-more w m x r c e q p f g z =
+      let v = viewOf k in
+      let y : r .finishes ≡ row v (numbered x) = ap (λ (y : Run). y .finishes) g ∙ ap (λ d. runOf v d .finishes) f ∙ row-is v x in
+      z
+      ∙ places-same (worseIn v w (r .finishes)) (worstTo v (x + 1))
+      (λ i l.
+      let a : at w (suc i) 0 ≡ worstTo v x (suc i) = at-suc w i 0 ∙ ap (λ u. getD u i 0) e ∙ place-is (worstTo v x) i l in
+      split (critical (v .policy) (suc i))
+      (λ b. rw b (ap (λ n. max n (at (r .finishes) (suc i) 0)) (a ∙ rw b refl) ∙ ap (λ u. max (largest (λ r. at r (suc i) 0) (rowsTo v x)) (at u (suc i) 0)) y ∙ sym (largest-more x i q l p)))
+      (λ b. rw b (a ∙ rw b refl)))
+
+  pub worsts-keep : (x : ℕ) → plays (viewOf k) x ≡ false → places (viewOf k) (worstTo (viewOf k) x) ≡ places (viewOf k) (worstTo (viewOf k) (x + 1))
+  unfolding worstTo
+  worsts-keep x p =
+      let v = viewOf k in
+      ap (λ l. places v (λ j. cond (critical (v .policy) j) (largest (λ r. at r j 0) l) (finishIn v Lo j))) (rows-keep k h x p)
+
+  pub worsts-end : (x : ℕ) → x ≡ k .n + 1 → places (viewOf k) (worstTo (viewOf k) x) ≡ places (viewOf k) (worst (viewOf k))
+  unfolding worstTo worst
+  worsts-end x e =
+      let v = viewOf k in
+      ap (λ l. places v (λ j. cond (critical (v .policy) j) (largest (λ r. at r j 0) l) (finishIn v Lo j))) (rows-end k h x e)
 
   pub margins-more : (l : List ℤ) (w : List ℕ) (i : ℕ) (m : ℤ) → l ≡ upTo i (margin (viewOf k)) (pos 0) → i < k .n
       → w ≡ places (viewOf k) (worst (viewOf k)) → m ≡ pos (getD (k .deadlines) i 0) -ℤ pos (getD w i 0)
@@ -157,22 +218,3 @@ module _ (k : Columns) (h : Testable k) where
   pub margins-all : (l : List ℤ) (i : ℕ) → l ≡ upTo i (margin (viewOf k)) (pos 0) → i ≡ k .n → l ≡ marginsIn (viewOf k)
   unfolding marginsIn viewOf listed
   margins-all l i e z = e ∙ ap (λ n. upTo n (margin (viewOf k)) (pos 0)) z ∙ upTo-places (k .n) (margin (viewOf k)) (pos 0)
-
--- the rows are 65 of 64 numbers
-row-length : (v : View) (x : Scenario) → length (row v x) ≡ 64
-unfolding row places
-row-length v x = map-length (λ j. cond (v .policy .part j) (finishIn v x j) 0)
-
-hi-row-length : (v : View) (j : ℕ) → length (hiRow v j) ≡ 64
-unfolding hiRow zeros
-hi-row-length v j =
-    split (v .policy .part j && critical (v .policy) j) (λ t. rw t (row-length v (Hi j))) (λ f. rw f (length-replicate {A = ℕ} 64 0))
-
-rows-length : (v : View) (x : ℕ) → x < 65 → length (getD (rows v) x []) ≡ 64
-unfolding rows
-rows-length v zero q = row-length v Lo
-rows-length v (suc i) q = ap length (map-at (hiRow v) i [] (omega arith)) ∙ hi-row-length v (suc i)
-
-pub rows-full : (v : View) (l : List (List ℕ)) → l ≡ rows v → RowsOf l
-unfolding rows numbers from
-rows-full v l e = subst RowsOf (sym e) (record { rows = refl; places = rows-length v })

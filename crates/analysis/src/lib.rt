@@ -98,8 +98,7 @@ pub fn worst_finishes(s: Set) -> [u16; 64]
     if refusal.number != GOOD {
         return [0u16; 64];
     }
-    let k = columns_of(s);
-    worsts_of(k, rows_of(k, span_in(s)))
+    worsts_of(columns_of(s), span_in(s))
 }
 
 // Each job's margin: its deadline minus its worst finish.
@@ -111,7 +110,7 @@ pub fn margins(s: Set) -> [i32; 64]
         return [0i32; 64];
     }
     let k = columns_of(s);
-    margins_of(k, worsts_of(k, rows_of(k, span_in(s))))
+    margins_of(k, worsts_of(k, span_in(s)))
 }
 
 // Makes both tables in the room lent. Refused, it writes nothing; entries past the span stay as they were.

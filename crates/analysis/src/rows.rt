@@ -1,13 +1,14 @@
 // Finish rows, worst finishes and margins.
 ghost use mathlib.Core.Path.{_≡_};
-ghost use Prim.Native.Nat.{_<_, max};
+ghost use Prim.Native.Nat.{max};
+ghost use mathlib.Core.Bool.{cond};
 ghost use lib.ListN.{replicate};
 ghost use lib.IntN.{pos, _-ℤ_};
 ghost use Rattle.model.specs.Sets.{span as spanOf};
 ghost use Rattle.model.specs.Scenarios.{places, zeros, rows as rowsIn, worst};
 ghost use Rattle.analysis.specs.Columns.{viewOf};
 ghost use Rattle.analysis.specs.Tests.{Testable};
-ghost use Rattle.analysis.specs.Rows.{largestAt, worstAt, RowsOf, marginsIn};
+ghost use Rattle.analysis.specs.Rows.{worseIn, marginsIn};
 use crate::columns::Columns;
 use crate::engine::run_to;
 use crate::scenario::plays_in;
@@ -50,44 +51,51 @@ fn larger(a: u16, b: u16) -> u16
     if a < b { b } else { a }
 }
 
-// The largest of the finishes at place i.
-fn largest_in(rows: [[u16; 64]; 65], i: usize) -> u16
-    requires { ⌜ RowsOf rows × (i < 64) ⌝ }
-    ensures { λ r. ⌜ r ≡ largestAt rows i ⌝ }
+// A job's worst finish after one more run of a HI scenario: for a LO job it stays.
+fn worse(critical: bool, worst: u16, finish: u16) -> u16
+    ensures { λ r. ⌜ r ≡ cond critical (max worst finish) worst ⌝ }
 {
-    let mut worst: u16 = 0;
-    let mut x: usize = 65;
-    while 0 < x {
-        x -= 1;
-        let row = rows[x];
-        worst = larger(row[i], worst);
+    if critical {
+        return larger(worst, finish);
     }
     worst
 }
 
-// The worst finish at place i: for a LO job the one of row LO.
-fn worst_in(critical: bool, rows: [[u16; 64]; 65], i: usize) -> u16
-    requires { ⌜ RowsOf rows × (i < 64) ⌝ }
-    ensures { λ r. ⌜ r ≡ worstAt critical rows i ⌝ }
+// The worst finishes after one more run of a HI scenario.
+fn raise(k: Columns, worsts: [u16; 64], finishes: [u16; 64]) -> [u16; 64]
+    requires { ⌜ Testable k ⌝ }
+    ensures { λ r. ⌜ r ≡ places (viewOf k) (worseIn (viewOf k) worsts finishes) ⌝ }
 {
-    if critical {
-        return largest_in(rows, i);
+    let n = k.n;
+    let mut raised = [0u16; 64];
+    let mut i: usize = 0;
+    while i < n {
+        raised[i] = worse(k.critical[i], worsts[i], finishes[i]);
+        i += 1;
     }
-    let row = rows[0];
-    row[i]
+    raised
 }
 
-// Each job's worst finish.
-pub fn worsts_of(k: Columns, rows: [[u16; 64]; 65]) -> [u16; 64]
-    requires { ⌜ Testable k × RowsOf rows × (rows ≡ rowsIn (viewOf k)) ⌝ }
+// Each job's worst finish: the run of scenario LO, raised by that of each HI scenario.
+pub fn worsts_of(k: Columns, span: u16) -> [u16; 64]
+    requires { ⌜ Testable k × (span ≡ spanOf (viewOf k)) ⌝ }
     ensures { λ r. ⌜ r ≡ places (viewOf k) (worst (viewOf k)) ⌝ }
 {
     let n = k.n;
-    let mut worsts = [0u16; 64];
-    let mut i: usize = 0;
-    while i < n {
-        worsts[i] = worst_in(k.critical[i], rows, i);
-        i += 1;
+    let lo = k.lo;
+    let first = run_to(k, lo, span);
+    let ends = first.finishes;
+    let mut worsts = ends;
+    let mut x: usize = 1;
+    while x <= n {
+        if plays_in(k, x) {
+            let times = times_in(k, x, ends);
+            let r = run_to(k, times, span);
+            let finishes = r.finishes;
+            let raised = raise(k, worsts, finishes);
+            worsts = raised;
+        }
+        x += 1;
     }
     worsts
 }

@@ -3,7 +3,6 @@
 use borrow.Author.Needs.{needs}
 use Rattle.analysis.proofs.AnswerLaws.{good-of, refused-margins, Prepared, prepared, found-margins}
 use Rattle.analysis.proofs.Views.{good-counts}
-use Rattle.analysis.proofs.RowLaws.{rows-full}
 use Rattle.analysis.proofs.margins.Statement.{statement}
 use Rattle.analysis.proofs.margins.Tie as tie
 
@@ -24,18 +23,15 @@ ready c =
     prepared _ _ _ (good-of _ _ (c .before .before .before .before .refusal-of .ensures) (c .before .before .if1 .left)) (search needs) (search needs)
     (c .before .columns-of .ensures) (c .span-in .ensures)
 
-rows-of-requires : tie.Need-rows-of-requires
-rows-of-requires c κs = (ready c .testable, ready c .end)
-
 worsts-of-requires : tie.Need-worsts-of-requires
-worsts-of-requires c κs = (ready (c .before) .testable, rows-full _ _ (c .rows-of .ensures), c .rows-of .ensures)
+worsts-of-requires c κs = (ready c .testable, ready c .end)
 
 margins-of-requires : tie.Need-margins-of-requires
-margins-of-requires c κs = (ready (c .before .before) .testable, c .worsts-of .ensures)
+margins-of-requires c κs = (ready (c .before) .testable, c .worsts-of .ensures)
 
 returns-2 : tie.Need-returns-2
-returns-2 c = found-margins _ _ _ (ready (c .before .before .before)) _ (c .margins-of .ensures)
+returns-2 c = found-margins _ _ _ (ready (c .before .before)) _ (c .margins-of .ensures)
 
 pub margins-spec : {M : Type 1} → statement M
 margins-spec =
-    tie.close (tie.spec refusal-of-requires returns columns-of-requires span-in-requires rows-of-requires worsts-of-requires margins-of-requires returns-2)
+    tie.close (tie.spec refusal-of-requires returns columns-of-requires span-in-requires worsts-of-requires margins-of-requires returns-2)

@@ -1,9 +1,8 @@
--- `worst_finishes` meets its contract: nothing where the set is refused, or the worst over its rows.
+-- `worst_finishes` meets its contract: nothing where the set is refused, or the worst over its runs.
 -- Assumes nothing.
 use borrow.Author.Needs.{needs}
 use Rattle.analysis.proofs.AnswerLaws.{good-of, refused-worsts, Prepared, prepared, found-worsts}
 use Rattle.analysis.proofs.Views.{good-counts}
-use Rattle.analysis.proofs.RowLaws.{rows-full}
 use Rattle.analysis.proofs.worst_finishes.Statement.{statement}
 use Rattle.analysis.proofs.worst_finishes.Tie as tie
 
@@ -24,15 +23,12 @@ ready c =
     prepared _ _ _ (good-of _ _ (c .before .before .before .before .refusal-of .ensures) (c .before .before .if1 .left)) (search needs) (search needs)
     (c .before .columns-of .ensures) (c .span-in .ensures)
 
-rows-of-requires : tie.Need-rows-of-requires
-rows-of-requires c κs = (ready c .testable, ready c .end)
-
 worsts-of-requires : tie.Need-worsts-of-requires
-worsts-of-requires c κs = (ready (c .before) .testable, rows-full _ _ (c .rows-of .ensures), c .rows-of .ensures)
+worsts-of-requires c κs = (ready c .testable, ready c .end)
 
 returns-2 : tie.Need-returns-2
-returns-2 c = found-worsts _ _ _ (ready (c .before .before)) _ (c .worsts-of .ensures)
+returns-2 c = found-worsts _ _ _ (ready (c .before)) _ (c .worsts-of .ensures)
 
 pub worst-finishes-spec : {M : Type 1} → statement M
 worst-finishes-spec =
-    tie.close (tie.spec refusal-of-requires returns columns-of-requires span-in-requires rows-of-requires worsts-of-requires returns-2)
+    tie.close (tie.spec refusal-of-requires returns columns-of-requires span-in-requires worsts-of-requires returns-2)
