@@ -2,6 +2,7 @@
 --   hi-switch        == scenario J switches exactly at J's turn
 --   finish-is        == the number in a row is the finish of a job whose deadline the row requires
 --   lo-in-row        == a LO job finishes in no row later than in row LO
+--   at-row, hi-row-is, at-hi-row   == what a row holds for a job
 --   worst-le, worst-of   == no finish is above the worst, and the worst is one
 --   margin-late      == a margin is negative exactly if the job is late in some row
 --   margin-range     == it lies between -4,095 and 65,534
@@ -152,7 +153,7 @@ module _ (v : View) (s : Sound v) where
       finish-none p d r (span v) j b f₀ one′ lo-ends (agree v s J a k f₀ j by-σ b ∙ had₀ ∙ sym same) in
       omega (arith, z, by, lo-finish j b))
 
-  at-row : (x : Scenario) (j : ℕ) → v .policy .part j ≡ true → at (row v x) j 0 ≡ finishIn v x j
+  pub at-row : (x : Scenario) (j : ℕ) → v .policy .part j ≡ true → at (row v x) j 0 ≡ finishIn v x j
   unfolding row time
   at-row x j a = place-time v (finishIn v x) j (s .ordered) a
 
@@ -166,7 +167,7 @@ module _ (v : View) (s : Sound v) where
   unfolding worst
   worst-lo j k = rw k refl
 
-  at-hi-row : (i j : ℕ) → v .policy .part j ≡ true
+  pub at-hi-row : (i j : ℕ) → v .policy .part j ≡ true
       → ((at (hiRow v i) j 0 ≡ 0)) ⊎ (ScenarioOf v (Hi i) × (at (hiRow v i) j 0 ≡ finishIn v (Hi i) j))
   unfolding hiRow
   at-hi-row i j a =
@@ -175,7 +176,7 @@ module _ (v : View) (s : Sound v) where
       (λ h. inr ((and-l (p .part i) (critical p i) h, and-r (p .part i) (critical p i) h), rw h (at-row (Hi i) j a)))
       (λ h. inl (rw h (at-zeros j (s .ordered .room j a .0))))
 
-  hi-row-is : (i j : ℕ) → ScenarioOf v (Hi i) → v .policy .part j ≡ true → at (hiRow v i) j 0 ≡ finishIn v (Hi i) j
+  pub hi-row-is : (i j : ℕ) → ScenarioOf v (Hi i) → v .policy .part j ≡ true → at (hiRow v i) j 0 ≡ finishIn v (Hi i) j
   unfolding hiRow
   hi-row-is i j q a = rw (and-i (q .0) (q .1)) (at-row (Hi i) j a)
 

@@ -1,4 +1,5 @@
 -- A sound set that has a job passes checks 2 to 7.
+--   lowest-no                    == a check that no job fails is good
 --   sound-passes                 == no refusal
 --   without-passes               == nor one for the set without some jobs, where a job stays
 -- Assumes nothing.
@@ -32,7 +33,7 @@ applies-no : (n k : ℕ) {b : Bool} → b ≡ false → applies n k b ≡ good
 unfolding applies
 applies-no n k {b} e = rw e
 
-lowest-no : (n : ℕ) (v : View) (bad : ℕ → Bool) → ((j : ℕ) → v .policy .part j ≡ true → bad j ≡ false) → lowest n v bad ≡ good
+pub lowest-no : (n : ℕ) (v : View) (bad : ℕ → Bool) → ((j : ℕ) → v .policy .part j ≡ true → bad j ≡ false) → lowest n v bad ≡ good
 unfolding lowest placed
 lowest-no n v bad h =
     applies-no n (first bad (members (v .policy)))

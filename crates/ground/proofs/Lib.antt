@@ -1,0 +1,7 @@
+-- What the promises of the libraries come to. A reader wants OneAnswer, Calls and Room; AtP shows that their premises are met.
+pub mod OneAnswer
+pub mod Answers
+pub mod Rows
+pub mod Calls
+pub mod Room
+pub mod AtP

@@ -1,0 +1,2 @@
+-- The words that the statements of proofs/ need beside theory's.
+pub mod Promises

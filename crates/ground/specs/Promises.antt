@@ -1,0 +1,80 @@
+-- What the public functions promise, as relations between what a call is given and what it answers. Each is the function's own promise, as the
+-- kit reads it off the contract (`Reads.Post`), and no copy of it: of the lifetimes, the arguments, the answer, and the arguments at exit.
+--   RefusalOf s x     == `refusal_of` may answer x for the set s, by its promise;  so for the others:
+--   SpanOf, Judges, FinishRows, RowsRefusal, WorstFinishes, Margins
+--   Executes s c x    == `execute`, with the running times c
+--   Picks o a d t x   == `pick`, lent an order o, arrivals a and who is done d, at the instant t
+--   Parts l t x       == `part` of the table l from the instant t: the slice that it answers holds x;  PartRefusal: its companion
+--   MakesTables s lo hi x loAfter hiAfter   == `make_tables`, lent room that holds lo and hi: it answers x, and the room holds loAfter and hiAfter
+use Prim.Native.Nat.{ℕ}
+use mathlib.Core.Bool.{Bool}
+use mathlib.Core.List.{List}
+use lib.IntN.{ℤ}
+use base.Fml.{GName}
+use contract.Lifetimes.{Lfts}
+use denote.Ref.{RefT}
+use Rattle.model.specs.declared.Set.{Set}
+use Rattle.model.specs.declared.Pick.{Pick}
+use Rattle.model.specs.declared.Refusal.{Refusal}
+use Rattle.model.specs.declared.Ran.{Ran}
+use Rattle.model.specs.declared.Judged.{Judged}
+use Rattle.checks.proofs.refusal_of.Reads.{Post as refusal-of}
+use Rattle.checks.proofs.span_of.Reads.{Post as span-of}
+use Rattle.analysis.proofs.judge.Reads.{Post as judge}
+use Rattle.analysis.proofs.finish_rows.Reads.{Post as finish-rows}
+use Rattle.analysis.proofs.rows_refusal.Reads.{Post as rows-refusal}
+use Rattle.analysis.proofs.worst_finishes.Reads.{Post as worst-finishes}
+use Rattle.analysis.proofs.margins.Reads.{Post as margins}
+use Rattle.analysis.proofs.execute.Reads.{Post as execute}
+use Rattle.picks.proofs.pick.Reads.{Post as pick}
+use Rattle.parts.proofs.part.Reads.{Post as part}
+use Rattle.parts.proofs.part_refusal.Reads.{Post as part-refusal}
+use Rattle.analysis.proofs.make_tables.Reads.{Post as make-tables}
+
+abbrev pub RefusalOf : Set → Refusal → Type 0
+RefusalOf s x = refusal-of tt (s, tt) x (s, tt)
+
+abbrev pub SpanOf : Set → ℕ → Type 0
+SpanOf s x = span-of tt (s, tt) x (s, tt)
+
+abbrev pub Judges : Set → Judged → Type 0
+Judges s x = judge tt (s, tt) x (s, tt)
+
+abbrev pub FinishRows : Set → List (List ℕ) → Type 0
+FinishRows s x = finish-rows tt (s, tt) x (s, tt)
+
+abbrev pub RowsRefusal : Set → Refusal → Type 0
+RowsRefusal s x = rows-refusal tt (s, tt) x (s, tt)
+
+abbrev pub WorstFinishes : Set → List ℕ → Type 0
+WorstFinishes s x = worst-finishes tt (s, tt) x (s, tt)
+
+abbrev pub Margins : Set → List ℤ → Type 0
+Margins s x = margins tt (s, tt) x (s, tt)
+
+abbrev pub Executes : Set → List ℕ → Ran → Type 0
+Executes s c x = execute tt (s, (c, tt)) x (s, (c, tt))
+
+-- Where a lent slice stands: its address, and the name by which the logic follows what it holds. `slice p l`: the slice at p, which holds l.
+abbrev Place : Type 0
+Place = (ℕ × ℕ) × GName
+
+abbrev slice : {A : Type 0} → Place → List A → RefT (List A)
+slice p l = record { ptr = p .0; name = p .1; now = l }
+
+-- Wherever the slices stand, and however long they are lent.
+abbrev pub Picks : List ℕ → List ℕ → List Bool → ℕ → Pick → Type 0
+Picks o a d t x =
+    (κs : Lfts 3) × (p q r : Place) ×
+    pick κs (slice p o, (slice q a, (slice r d, (t, tt)))) x (slice p o, (slice q a, (slice r d, (t, tt))))
+
+abbrev pub Parts : List ℕ → ℕ → List ℕ → Type 0
+Parts l t x = (κs : Lfts 1) × (p q : Place) × part κs (slice p l, (t, tt)) (slice q x) (slice p l, (t, tt))
+
+abbrev pub PartRefusal : List ℕ → ℕ → Refusal → Type 0
+PartRefusal l t x = (κs : Lfts 1) × (p : Place) × part-refusal κs (slice p l, (t, tt)) x (slice p l, (t, tt))
+
+abbrev pub MakesTables : Set → List ℕ → List ℕ → Refusal → List ℕ → List ℕ → Type 0
+MakesTables s lo hi x loAfter hiAfter =
+    (κs : Lfts 2) × (p q : Place) ×
+    make-tables κs (s, (slice p lo, (slice q hi, tt))) x (s, (slice p loAfter, (slice q hiAfter, tt)))
