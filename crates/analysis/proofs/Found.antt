@@ -21,7 +21,8 @@ use Rattle.model.specs.Scenarios.{zeros, timesOf, finishIn, lateIn, verdict, ti
 use Rattle.analysis.specs.declared.columns.Columns.{Columns}
 use Rattle.analysis.specs.declared.engine.Run.{Run}
 use Rattle.analysis.specs.Columns.{viewOf, runOf}
-use Rattle.analysis.specs.Tests.{numbered, missedBy, plays, Testable, unfitIn, found}
+use Rattle.measures.specs.Measures.{missedBy}
+use Rattle.analysis.specs.Tests.{numbered, plays, Testable, unfitIn, found}
 use Rattle.analysis.proofs.Search.{rest, rest-skip, rest-pass, rest-fail, rest-end, Passed, part-e, finish-is, late-none, late-is, plays-in, plays-out, missed-turn}
 
 -- the answer where job j ends at f in scenario x

@@ -12,7 +12,6 @@ pub mod Raised
 pub mod Search
 pub mod Found
 pub mod RowLaws
-pub mod Signed
 pub mod Room
 pub mod Slots
 pub mod Tables

@@ -36,7 +36,8 @@ use Rattle.analysis.specs.declared.columns.Columns.{Columns}
 use Rattle.analysis.specs.declared.engine.Run.{Run}
 use Rattle.analysis.specs.Columns.{viewOf, listed, runOf, Runnable}
 use Rattle.analysis.proofs.Fill.{map-length}
-use Rattle.analysis.specs.Tests.{numbered, missedBy, plays, Testable, Playable}
+use Rattle.measures.specs.Measures.{missedBy}
+use Rattle.analysis.specs.Tests.{numbered, plays, Testable, Playable}
 
 -- the HI jobs from number k on, of 64
 hiFrom : View → ℕ → ℕ → List ℕ

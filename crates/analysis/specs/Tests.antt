@@ -1,6 +1,5 @@
 -- The scenarios by number, and what the search over them finds.
 --   numbered x          == scenario x: 0 is LO, and j is HI of job j
---   missedBy            == a finish misses a deadline that the run requires
 --   plays v x           == x is a scenario of the set
 --   Testable k          == full columns of a sound set, with 0 beyond the LO budgets
 --   Playable k x ends   == x is a scenario of it, and ends are the finishes of scenario 0
@@ -8,13 +7,11 @@
 --   found v             == the verdict found, with the times beside it
 use Prim.Native.Nat.{ℕ, _+_}
 use mathlib.Core.Path.{_≡_}
-use mathlib.Core.Bool.{Bool, true, cond, _&&_, _||_}
+use mathlib.Core.Bool.{Bool, true, cond, _||_}
 use mathlib.Core.List.{List}
-use lib.Dec.{eqb, ltb}
+use lib.Dec.{eqb}
 use Rattle.model.specs.declared.Scenario.{Scenario}
 use Rattle.model.specs.declared.Scenario.the-variants.{Lo, Hi}
-use Rattle.model.specs.declared.Switch.{Switch}
-use Rattle.model.specs.declared.Switch.the-variants.{Never, At}
 use Rattle.model.specs.declared.Judged.{Judged}
 use Rattle.model.specs.declared.Judgement.the-variants.{Found}
 use Rattle.model.specs.declared.Verdict.the-variants.{Unfit}
@@ -26,10 +23,6 @@ use Rattle.analysis.specs.Columns.{viewOf, Full, runOf}
 
 unfoldable pub numbered : ℕ → Scenario
 numbered x = cond (eqb x 0) Lo (Hi x)
-
-unfoldable pub missedBy : Bool → ℕ → ℕ → Switch → Bool
-missedBy critical deadline finish Never = ltb deadline finish
-missedBy critical deadline finish (At t) = critical && ltb deadline finish
 
 -- scenario x is one of the set, where x is at most N
 unfoldable pub plays : View → ℕ → Bool

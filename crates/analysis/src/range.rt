@@ -1,22 +1,11 @@
 // Which running times a run may have.
 ghost use mathlib.Core.Path.{_≡_};
-ghost use mathlib.Core.Bool.{cond, _&&_};
-ghost use lib.Dec.{leb};
 ghost use lib.ListN.{length};
 ghost use Rattle.analysis.specs.Columns.{viewOf};
 ghost use Rattle.analysis.specs.Tests.{Testable};
 ghost use Rattle.analysis.specs.Ranges.{outside};
 use crate::columns::Columns;
-
-// Whether a time lies in its range: 1 to the LO budget for a LO job, 1 to the HI budget for a HI job.
-fn in_range(critical: bool, lo: u16, hi: u16, time: u16) -> bool
-    ensures { λ r. ⌜ r ≡ (leb 1 time && leb time (cond critical hi lo)) ⌝ }
-{
-    if time < 1 {
-        return false;
-    }
-    if critical { time <= hi } else { time <= lo }
-}
+use measures::in_range;
 
 // The lowest job whose running time lies outside its range, 0 where there is none.
 pub fn out_of_range(k: Columns, times: [u16; 64]) -> usize

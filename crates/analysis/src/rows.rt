@@ -1,9 +1,6 @@
 // Finish rows, worst finishes and margins.
 ghost use mathlib.Core.Path.{_≡_};
-ghost use Prim.Native.Nat.{max};
-ghost use mathlib.Core.Bool.{cond};
 ghost use lib.ListN.{replicate};
-ghost use lib.IntN.{pos, _-ℤ_};
 ghost use Rattle.model.specs.Sets.{span as spanOf};
 ghost use Rattle.model.specs.Scenarios.{places, zeros, rows as rowsIn, worst};
 ghost use Rattle.analysis.specs.Columns.{viewOf};
@@ -13,6 +10,8 @@ use crate::columns::Columns;
 use crate::engine::run_to;
 use crate::scenario::plays_in;
 use crate::scenario::times_in;
+use measures::margin_of;
+use measures::worse;
 
 // Rows that hold nothing.
 pub fn zero_rows() -> [[u16; 64]; 65]
@@ -42,23 +41,6 @@ pub fn rows_of(k: Columns, span: u16) -> [[u16; 64]; 65]
         x += 1;
     }
     rows
-}
-
-// The larger of two numbers.
-fn larger(a: u16, b: u16) -> u16
-    ensures { λ r. ⌜ r ≡ max a b ⌝ }
-{
-    if a < b { b } else { a }
-}
-
-// A job's worst finish after one more run of a HI scenario: for a LO job it stays.
-fn worse(critical: bool, worst: u16, finish: u16) -> u16
-    ensures { λ r. ⌜ r ≡ cond critical (max worst finish) worst ⌝ }
-{
-    if critical {
-        return larger(worst, finish);
-    }
-    worst
 }
 
 // The worst finishes after one more run of a HI scenario.
@@ -98,13 +80,6 @@ pub fn worsts_of(k: Columns, span: u16) -> [u16; 64]
         x += 1;
     }
     worsts
-}
-
-// A deadline minus a worst finish.
-fn margin_of(deadline: u16, worst: u16) -> i32
-    ensures { λ r. ⌜ r ≡ pos deadline -ℤ pos worst ⌝ }
-{
-    (deadline as i32) - (worst as i32)
 }
 
 // Each job's margin.

@@ -5,15 +5,15 @@ ghost use Prim.Native.Nat.{_≤_, _<_};
 ghost use Rattle.model.specs.Sets.{span as spanOf};
 ghost use Rattle.model.specs.Scenarios.{timesOf};
 ghost use Rattle.analysis.specs.Columns.{viewOf};
-ghost use Rattle.analysis.specs.Tests.{numbered, missedBy, plays, Testable, Playable, unfitIn, found};
+ghost use Rattle.analysis.specs.Tests.{numbered, plays, Testable, Playable, unfitIn, found};
 use crate::columns::Columns;
 use crate::engine::Run;
 use crate::engine::run_to;
+use measures::misses;
 use model::Judged;
 use model::Judgement;
 use model::Miss;
 use model::Scenario;
-use model::Switch;
 use model::Verdict;
 
 // Scenario 0 is LO, and scenario j HI of job j.
@@ -25,16 +25,6 @@ fn scenario_of(x: usize) -> Scenario
         Scenario::Lo
     } else {
         Scenario::Hi(x as u16)
-    }
-}
-
-// Whether a finish misses a deadline that the run requires.
-fn misses(critical: bool, deadline: u16, finish: u16, switch: Switch) -> bool
-    ensures { λ r. ⌜ r ≡ missedBy critical deadline finish switch ⌝ }
-{
-    match switch {
-        Switch::Never => deadline < finish,
-        Switch::At(_) => { if critical { deadline < finish } else { false } }
     }
 }
 

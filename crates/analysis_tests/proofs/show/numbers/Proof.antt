@@ -1,0 +1,55 @@
+-- `numbers` is safe and ends. There are 64 places.
+-- Assumes nothing.
+use borrow.Author.Needs.{needs}
+use Prim.Native.Nat.{_≤_, _-_}
+use Rattle.analysis_tests.proofs.show.numbers.Statement.{statement}
+use Rattle.analysis_tests.proofs.show.numbers.Tie as tie
+
+abbrev Inv-loop : tie.InvT-loop
+Inv-loop values n i₀ i = i ≤ 64
+
+abbrev μ-loop : tie.MeasureT-loop
+μ-loop values n i₀ i = 64 - i
+
+loop-holds : tie.Need-loop-holds Inv-loop μ-loop
+loop-holds c = search needs
+
+mul-x : tie.Need-mul-x Inv-loop μ-loop
+mul-x c = search needs
+
+element-copy-out-x : tie.Need-element-copy-out-x Inv-loop μ-loop
+element-copy-out-x c = search needs
+
+is-shown-requires : tie.Need-is-shown-requires Inv-loop μ-loop
+is-shown-requires c κs = search needs
+
+entry-requires : tie.Need-entry-requires Inv-loop μ-loop
+entry-requires c κs = search needs
+
+add-i : tie.Need-add-i Inv-loop μ-loop
+add-i c = search needs
+
+loop-less : tie.Need-loop-less Inv-loop μ-loop
+loop-less c = search needs
+
+loop-again : tie.Need-loop-again Inv-loop μ-loop
+loop-again c = search needs
+
+returns : tie.Need-returns Inv-loop μ-loop
+returns c = search needs
+
+pub numbers-spec : {M : Type 1} → statement M
+numbers-spec =
+    tie.close
+    (tie.spec
+    Inv-loop
+    μ-loop
+    loop-holds
+    mul-x
+    element-copy-out-x
+    is-shown-requires
+    entry-requires
+    add-i
+    loop-less
+    loop-again
+    returns)

@@ -1,0 +1,2 @@
+-- Laws that the proofs of the measures cite.
+pub mod Signed

@@ -1,0 +1,2 @@
+-- What a miss is promised by.
+pub mod Measures
