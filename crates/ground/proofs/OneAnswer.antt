@@ -11,11 +11,12 @@ use mathlib.Core.List.{List}
 use lib.IntN.{ℤ}
 use Rattle.model.specs.declared.Set.{Set}
 use Rattle.model.specs.declared.Pick.{Pick}
+use Rattle.model.specs.declared.Switch.{Switch}
 use Rattle.model.specs.declared.Refusal.{Refusal}
 use Rattle.model.specs.declared.Ran.{Ran}
 use Rattle.model.specs.declared.Judged.{Judged}
 use Rattle.ground.specs.Promises.{RefusalOf, SpanOf, Judges, FinishRows, RowsRefusal, WorstFinishes, Margins, Executes}
-use Rattle.ground.specs.Promises.{Picks, Parts, PartRefusal, MakesTables}
+use Rattle.ground.specs.Promises.{Picks, Parts, PartRefusal, MakesTables, InRange, Misses, Worse, MarginOf}
 
 pub one : {A : Type 0} {x y z : A} → x ≡ z → y ≡ z → x ≡ y
 one p q = p ∙ sym q
@@ -72,3 +73,19 @@ part-one l t x y p q = one (p .3) (q .3)
 -- The refusal beside the part.
 pub part-refusal-one : (l : List ℕ) (t : ℕ) (x y : Refusal) → PartRefusal l t x → PartRefusal l t y → x ≡ y
 part-refusal-one l t x y p q = one (p .2) (q .2)
+
+-- measures ----------------------------------------------------------------------------------------------------------------------------
+
+-- Whether a time lies in its range, and whether a finish misses a deadline.
+pub in-range-one : (h : Bool) (lo hi c : ℕ) (x y : Bool) → InRange h lo hi c x → InRange h lo hi c y → x ≡ y
+in-range-one h lo hi c x y p q = one p q
+
+pub misses-one : (h : Bool) (d f : ℕ) (w : Switch) (x y : Bool) → Misses h d f w x → Misses h d f w y → x ≡ y
+misses-one h d f w x y p q = one p q
+
+-- The worse of two finishes, and the margin.
+pub worse-one : (h : Bool) (w f x y : ℕ) → Worse h w f x → Worse h w f y → x ≡ y
+worse-one h w f x y p q = one p q
+
+pub margin-of-one : (d w : ℕ) (x y : ℤ) → MarginOf d w x → MarginOf d w y → x ≡ y
+margin-of-one d w x y p q = one p q

@@ -5,6 +5,7 @@
 --   Executes s c x    == `execute`, with the running times c
 --   Picks o a d t x   == `pick`, lent an order o, arrivals a and who is done d, at the instant t
 --   Parts l t x       == `part` of the table l from the instant t: the slice that it answers holds x;  PartRefusal: its companion
+--   InRange, Misses, Worse, MarginOf   == those of the measures, from the numbers that each is given
 --   MakesTables s lo hi x loAfter hiAfter   == `make_tables`, lent room that holds lo and hi: it answers x, and the room holds loAfter and hiAfter
 use Prim.Native.Nat.{ℕ}
 use mathlib.Core.Bool.{Bool}
@@ -15,11 +16,16 @@ use contract.Lifetimes.{Lfts}
 use denote.Ref.{RefT}
 use Rattle.model.specs.declared.Set.{Set}
 use Rattle.model.specs.declared.Pick.{Pick}
+use Rattle.model.specs.declared.Switch.{Switch}
 use Rattle.model.specs.declared.Refusal.{Refusal}
 use Rattle.model.specs.declared.Ran.{Ran}
 use Rattle.model.specs.declared.Judged.{Judged}
 use Rattle.checks.proofs.refusal_of.Reads.{Post as refusal-of}
 use Rattle.checks.proofs.span_of.Reads.{Post as span-of}
+use Rattle.measures.proofs.in_range.Reads.{Post as in-range}
+use Rattle.measures.proofs.misses.Reads.{Post as misses}
+use Rattle.measures.proofs.worse.Reads.{Post as worse}
+use Rattle.measures.proofs.margin_of.Reads.{Post as margin-of}
 use Rattle.analysis.proofs.judge.Reads.{Post as judge}
 use Rattle.analysis.proofs.finish_rows.Reads.{Post as finish-rows}
 use Rattle.analysis.proofs.rows_refusal.Reads.{Post as rows-refusal}
@@ -54,6 +60,18 @@ Margins s x = margins tt (s, tt) x (s, tt)
 
 abbrev pub Executes : Set → List ℕ → Ran → Type 0
 Executes s c x = execute tt (s, (c, tt)) x (s, (c, tt))
+
+abbrev pub InRange : Bool → ℕ → ℕ → ℕ → Bool → Type 0
+InRange h lo hi c x = in-range tt (h, (lo, (hi, (c, tt)))) x (h, (lo, (hi, (c, tt))))
+
+abbrev pub Misses : Bool → ℕ → ℕ → Switch → Bool → Type 0
+Misses h d f w x = misses tt (h, (d, (f, (w, tt)))) x (h, (d, (f, (w, tt))))
+
+abbrev pub Worse : Bool → ℕ → ℕ → ℕ → Type 0
+Worse h w f x = worse tt (h, (w, (f, tt))) x (h, (w, (f, tt)))
+
+abbrev pub MarginOf : ℕ → ℕ → ℤ → Type 0
+MarginOf d w x = margin-of tt (d, (w, tt)) x (d, (w, tt))
 
 -- Where a lent slice stands: its address, and the name by which the logic follows what it holds. `slice p l`: the slice at p, which holds l.
 abbrev Place : Type 0
