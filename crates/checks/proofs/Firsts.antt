@@ -4,7 +4,7 @@
 --   counts-fit  == what check 2 says of a set that passes it
 --   count-is, time-is, budget-is, lo-is, hi-is  == what the code finds is what checks 2, 3, 4, 6 and 7 say
 -- Assumes nothing.
-use Prim.Native.Nat.{ℕ, _≤_}
+use Prim.Native.Nat.{ℕ, _≤_, min}
 use mathlib.Core.Path.{_≡_, refl, sym, _∙_, ap}
 use mathlib.Core.Bool.{Bool, cond}
 use mathlib.Core.List.{List, [], _∷_, _++_}
@@ -16,12 +16,12 @@ use Rattle.model.specs.declared.Level.the-variants.{Lo, Hi}
 use Rattle.model.specs.Lists.{first, cut}
 use Rattle.model.specs.Sets.{isHi, critical, view, countOf, members, orderOf}
 use Rattle.model.specs.Refusals.{good, isGood, applies, placed, firstOf, lowest, fault, checkCount, timeWrong, checkTime, budgetWrong, checkBudget, checkLoOrder, isHiJob, checkHiOrder}
-use Rattle.checks.specs.Rules.{untimely, unbudgeted, breaks, breaksAt, mayStand, marked}
+use Rattle.rules.specs.Rules.{untimely, unbudgeted, breaks, breaksAt, mayStand, marked}
 use Rattle.laws.proofs.Bools.{split}
 use Rattle.laws.proofs.Members.{hi-jobs-most}
 use Rattle.laws.proofs.Checks.{counts-right}
-use Rattle.checks.proofs.Laws.{and-true}
-use Rattle.checks.proofs.Faults.{fault-cong}
+use Rattle.rules.proofs.Laws.{and-true}
+use Rattle.rules.proofs.Faults.{fault-cong}
 
 pub alone : (n k : ℕ) (b : Bool) → 1 ≤ n → applies n k b ≡ firstOf (applies n k b ∷ [])
 unfolding firstOf isGood applies good
@@ -52,6 +52,9 @@ counts-fit s r e z =
     let k = counts-right (view s) (eq-eqb (checkCount (view s) .number) 0 (ap (λ x. x .number) (sym e) ∙ z)) in
     omega (arith, k, hi-jobs-most (view s))
 
+within : (n : ℕ) → n ≤ 64 → min n 64 ≡ n
+within n h = omega arith
+
 module _ (s : Set) (k : ℕ) where
   pub time-is : k ≡ first (breaksAt 3 s) (members (view s .policy)) → placed 3 k ≡ firstOf (checkTime (view s) ∷ [])
   unfolding placed checkTime lowest timeWrong breaksAt breaks untimely view
@@ -62,14 +65,15 @@ module _ (s : Set) (k : ℕ) where
   budget-is e = ap (placed 4) e ∙ alone 4 _ _ (omega arith)
 
   module _ (ok : List Bool) where
-    pub lo-is : ((j : ℕ) → marked ok j ≡ mayStand (view s) Lo j) → k ≡ fault (marked ok) (cut 0 (s .lo .count) (s .lo .entries))
+    pub lo-is : s .lo .count ≤ 64 → ((j : ℕ) → marked ok j ≡ mayStand (view s) Lo j) → k ≡ fault (marked ok) (cut 0 (min (s .lo .count) 64) (s .lo .entries))
         → placed 6 k ≡ firstOf (checkLoOrder (view s) ∷ [])
     unfolding placed checkLoOrder view orderOf mayStand isHi
-    lo-is h e =
-        ap (placed 6) (e ∙ fault-cong (marked ok) (view s .policy .part) (orderOf s Lo) (λ j. h j ∙ and-true (view s .policy .part j)))
+    lo-is c h e =
+        ap (placed 6) (e ∙ ap (λ n. fault (marked ok) (cut 0 n (s .lo .entries))) (within (s .lo .count) c) ∙ fault-cong (marked ok) (view s .policy .part) (orderOf s Lo) (λ j. h j ∙ and-true (view s .policy .part j)))
         ∙ alone 6 _ _ (omega arith)
 
-    pub hi-is : ((j : ℕ) → marked ok j ≡ mayStand (view s) Hi j) → k ≡ fault (marked ok) (cut 0 (s .hi .count) (s .hi .entries))
+    pub hi-is : s .hi .count ≤ 64 → ((j : ℕ) → marked ok j ≡ mayStand (view s) Hi j) → k ≡ fault (marked ok) (cut 0 (min (s .hi .count) 64) (s .hi .entries))
         → placed 7 k ≡ firstOf (checkHiOrder (view s) ∷ [])
     unfolding placed checkHiOrder isHiJob view orderOf mayStand isHi
-    hi-is h e = ap (placed 7) (e ∙ fault-cong (marked ok) (isHiJob (view s)) (orderOf s Hi) h) ∙ alone 7 _ _ (omega arith)
+    hi-is c h e =
+        ap (placed 7) (e ∙ ap (λ n. fault (marked ok) (cut 0 n (s .hi .entries))) (within (s .hi .count) c) ∙ fault-cong (marked ok) (isHiJob (view s)) (orderOf s Hi) h) ∙ alone 7 _ _ (omega arith)

@@ -16,7 +16,7 @@ use Rattle.model.specs.declared.Level.{Level}
 use Rattle.model.specs.declared.Set.{Set}
 use Rattle.model.specs.Lists.{at}
 use Rattle.model.specs.Sets.{isHi, critical, view}
-use Rattle.checks.specs.Rules.{mayStand, marked}
+use Rattle.rules.specs.Rules.{mayStand, marked}
 use Rattle.laws.proofs.Bools.{tests, split, same, and-l, and-r, and-no-r}
 use Rattle.laws.proofs.Places.{at-in}
 

@@ -7,7 +7,6 @@ ghost use Rattle.model.specs.Refusals.{applies, placed, firstOf, checkCount, ch
 use crate::jobs::hi_jobs;
 use crate::jobs::lowest;
 use crate::orders::allowed;
-use crate::orders::fault_of;
 use model::BUDGET;
 use model::COUNT;
 use model::GOOD;
@@ -18,6 +17,7 @@ use model::Refusal;
 use model::SPAN;
 use model::Set;
 use model::TIME;
+use rules::fault_of;
 
 // Refusal `number` with its place, where it applies.
 fn applies(number: u8, place: u64, wrong: bool) -> Refusal

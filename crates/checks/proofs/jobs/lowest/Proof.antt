@@ -7,7 +7,7 @@ use borrow.Author.Needs.{needs}
 use Rattle.model.specs.Lists.{from, first}
 use Rattle.model.specs.Sets.{members, view, blank, job}
 use Rattle.laws.proofs.Members.{job-at, members-from, from-end, first-pass, first-fail}
-use Rattle.checks.specs.Rules.{breaks, breaksAt}
+use Rattle.rules.specs.Rules.{breaks, breaksAt}
 use Rattle.checks.proofs.jobs.lowest.Statement.{statement}
 use Rattle.checks.proofs.jobs.lowest.Tie as tie
 

@@ -11,7 +11,7 @@ use lib.ListN.{length, length-set}
 use Rattle.model.specs.Sets.{isHi, critical, view, blank, job}
 use Rattle.laws.proofs.Bools.{and-i}
 use Rattle.laws.proofs.Members.{job-at}
-use Rattle.checks.specs.Rules.{mayStand, marked}
+use Rattle.rules.specs.Rules.{mayStand, marked}
 use Rattle.checks.proofs.Marks.{no-marks, mark-more, all-marks}
 use Rattle.checks.proofs.orders.allowed.Statement.{statement}
 use Rattle.checks.proofs.orders.allowed.Tie as tie

@@ -1,6 +1,7 @@
 -- `checks::refusals::check_orders` meets its contract: where the LO order has no fault, the HI order decides. Assumes nothing.
 use mathlib.Core.List.{[], _∷_}
 use mathlib.Core.Path.{_≡_, sym, _∙_}
+use native.Mathlib.Omega.{arith}
 use borrow.Author.Needs.{needs}
 use Rattle.model.specs.Sets.{view}
 use Rattle.model.specs.Refusals.{firstOf, checkLoOrder, checkHiOrder}
@@ -21,7 +22,7 @@ lo : (c : tie.After-placed) → c .placed .result ≡ firstOf (checkLoOrder (vie
 lo c =
     let f = c .before in
     let a = f .before in
-    c .placed .ensures ∙ lo-is (a .before .before .args .s) (f .fault-of .result) (a .allowed .result) (a .allowed .ensures) (f .fault-of .ensures)
+    c .placed .ensures ∙ lo-is (a .before .before .args .s) (f .fault-of .result) (a .allowed .result) (omega arith) (a .allowed .ensures) (f .fault-of .ensures)
 
 returns : tie.Need-returns
 returns c = taken (c .before .before .placed .result) _ _ (lo (c .before .before)) (c .if1 .taken)
@@ -43,7 +44,7 @@ returns-2 c =
     let l = d .before .before in
     let s = l .before .before .before .before .args .s in
     c .placed2 .ensures
-    ∙ hi-is s (f .fault-of2 .result) (a .allowed2 .result) (a .allowed2 .ensures) (f .fault-of2 .ensures)
+    ∙ hi-is s (f .fault-of2 .result) (a .allowed2 .result) (omega arith) (a .allowed2 .ensures) (f .fault-of2 .ensures)
     ∙ sym (passed (l .placed .result) (checkLoOrder (view s) ∷ []) (checkHiOrder (view s) ∷ []) (lo l) (d .if1 .left))
 
 pub check-orders-spec : {M : Type 1} → statement M

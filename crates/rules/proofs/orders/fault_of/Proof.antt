@@ -1,6 +1,6 @@
--- `checks::orders::fault_of` meets its contract. The loop's invariant: the order's first fault is that of the entries still ahead, those before
+-- `rules::orders::fault_of` meets its contract. The loop's invariant: the order's first fault is that of the entries still ahead, those before
 -- place i having been met. Assumes nothing.
-use Prim.Native.Nat.{_+_, _-_, _≤_}
+use Prim.Native.Nat.{_+_, _-_, _≤_, min}
 use mathlib.Core.Bool.{not, _||_}
 use mathlib.Core.Path.{_≡_, refl, sym, _∙_, ap}
 use native.Mathlib.Omega.{arith}
@@ -9,10 +9,10 @@ use lib.ListN.{getD, drop}
 use Rattle.model.specs.Lists.{mem, cut}
 use Rattle.model.specs.Refusals.{faultFrom, fault}
 use Rattle.laws.proofs.Members.{cut-end}
-use Rattle.checks.specs.Rules.{marked}
-use Rattle.checks.proofs.Faults.{fault-found, fault-passed}
-use Rattle.checks.proofs.orders.fault_of.Statement.{statement}
-use Rattle.checks.proofs.orders.fault_of.Tie as tie
+use Rattle.rules.specs.Rules.{marked}
+use Rattle.rules.proofs.Faults.{fault-found, fault-passed}
+use Rattle.rules.proofs.orders.fault_of.Statement.{statement}
+use Rattle.rules.proofs.orders.fault_of.Tie as tie
 
 abbrev Inv-loop : tie.InvT-loop
 Inv-loop ok o n i₀ i =
@@ -21,6 +21,14 @@ Inv-loop ok o n i₀ i =
 
 abbrev μ-loop : tie.MeasureT-loop
 μ-loop ok o n i₀ i = n - i
+
+places-requires : tie.Need-places-requires Inv-loop μ-loop
+places-requires c κs = search needs
+
+-- the order is cut at the places that its count has
+counted : (c : tie.After-places Inv-loop μ-loop) → let a = c .before .args in
+    fault (marked (a .ok)) (cut 0 (min (a .t2 .count) 64) (a .t2 .entries)) ≡ fault (marked (a .ok)) (cut 0 (c .places .result) (a .t2 .entries))
+counted c = let e : min (c .before .args .t2 .count) 64 ≡ c .places .result = sym (c .places .ensures) in rw e
 
 loop-holds : tie.Need-loop-holds Inv-loop μ-loop
 unfolding fault cut
@@ -44,12 +52,12 @@ stands-requires c κs = search needs
 -- whether the entry at place i is a fault
 wrong : (c : tie.After-stands Inv-loop μ-loop) →
     let l = c .before .before .before .before in
-    let a = l .before .args in
+    let a = l .before .before .args in
     let x = getD (a .t2 .entries) (l .loop .i) 0 in
     (not (marked (a .ok) x) || mem x (cut 0 (l .loop .i) (a .t2 .entries))) ≡ (not (c .before .marked .result) || c .stands .result)
 wrong c =
     let l = c .before .before .before .before in
-    let a = l .before .args in
+    let a = l .before .before .args in
     let x = getD (a .t2 .entries) (l .loop .i) 0 in
     let p : c .before .marked .result ≡ marked (a .ok) x = c .before .marked .ensures in
     let q : c .stands .result ≡ mem x (cut 0 (l .loop .i) (a .t2 .entries)) = c .stands .ensures in
@@ -58,9 +66,9 @@ wrong c =
 returns : tie.Need-returns Inv-loop μ-loop
 returns c =
     let l = c .before .before .before .before .before in
-    let a = l .before .args in
-    sym (l .loop .inv .1
-    ∙ fault-found (marked (a .ok)) (a .t2 .entries) (l .loop .i) (a .t2 .count) (omega arith) (wrong (c .before) ∙ c .if1 .taken))
+    let a = l .before .before .args in
+    sym (counted (l .before) ∙ l .loop .inv .1
+    ∙ fault-found (marked (a .ok)) (a .t2 .entries) (l .loop .i) (l .before .places .result) (omega arith) (wrong (c .before) ∙ c .if1 .taken))
 
 loop-less : tie.Need-loop-less Inv-loop μ-loop
 loop-less c = search needs
@@ -68,20 +76,20 @@ loop-less c = search needs
 loop-again : tie.Need-loop-again Inv-loop μ-loop
 loop-again c =
     let l = c .before .before .before .before .before in
-    let a = l .before .args in (
+    let a = l .before .before .args in (
       omega arith,
       l .loop .inv .1
-          ∙ fault-passed (marked (a .ok)) (a .t2 .entries) (l .loop .i) (a .t2 .count) (omega arith) (wrong (c .before) ∙ c .if1 .left),
+          ∙ fault-passed (marked (a .ok)) (a .t2 .entries) (l .loop .i) (l .before .places .result) (omega arith) (wrong (c .before) ∙ c .if1 .left),
     )
 
 returns-2 : tie.Need-returns-2 Inv-loop μ-loop
 unfolding faultFrom
 returns-2 c =
     let l = c .before in
-    let a = l .before .args in
-    sym (l .loop .inv .1
+    let a = l .before .before .args in
+    sym (counted (l .before) ∙ l .loop .inv .1
     ∙ ap (faultFrom (marked (a .ok)) (cut 0 (l .loop .i) (a .t2 .entries)) (l .loop .i + 1))
-    (cut-end 0 (a .t2 .entries) (l .loop .i) (a .t2 .count) (c .loop-test .left)))
+    (cut-end 0 (a .t2 .entries) (l .loop .i) (l .before .places .result) (c .loop-test .left)))
 
 pub fault-of-spec : {M : Type 1} → statement M
 fault-of-spec =
@@ -89,6 +97,7 @@ fault-of-spec =
     (tie.spec
     Inv-loop
     μ-loop
+    places-requires
     loop-holds
     mul-x
     element-copy-out-x

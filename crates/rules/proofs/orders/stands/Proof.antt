@@ -1,4 +1,4 @@
--- `checks::orders::stands` meets its contract. The loop's invariant: the number stands there if it stands among the entries still ahead.
+-- `rules::orders::stands` meets its contract. The loop's invariant: the number stands there if it stands among the entries still ahead.
 -- Assumes nothing.
 use Prim.Native.Nat.{_-_}
 use mathlib.Core.Path.{_≡_, refl, sym, _∙_, ap}
@@ -8,8 +8,8 @@ use borrow.Author.Tests.{eq-eqb, ne-eqb}
 use lib.ListN.{getD, drop}
 use Rattle.model.specs.Lists.{any, mem, cut}
 use Rattle.laws.proofs.Members.{cut-step, cut-end}
-use Rattle.checks.proofs.orders.stands.Statement.{statement}
-use Rattle.checks.proofs.orders.stands.Tie as tie
+use Rattle.rules.proofs.orders.stands.Statement.{statement}
+use Rattle.rules.proofs.orders.stands.Tie as tie
 
 abbrev Inv-loop : tie.InvT-loop
 Inv-loop a b x o k₀ k = mem x (drop a (cut 0 b (o .entries))) ≡ mem x (drop k (cut 0 b (o .entries)))

@@ -1,13 +1,13 @@
--- `checks::jobs::unbudgeted` meets its contract, at each return by what the tests on the way say. Assumes nothing.
+-- `rules::jobs::unbudgeted` meets its contract, at each return by what the tests on the way say. Assumes nothing.
 use mathlib.Core.Bool.{true, false}
 use mathlib.Core.Path.{_≡_, sym, _∙_}
 use borrow.Author.Needs.{needs}
 use borrow.Author.Tests.{le-leb, lt-leb}
 use Rattle.model.specs.Sets.{isHi}
-use Rattle.checks.specs.Rules.{unbudgeted}
-use Rattle.checks.proofs.Laws.{leb-not}
-use Rattle.checks.proofs.jobs.unbudgeted.Statement.{statement}
-use Rattle.checks.proofs.jobs.unbudgeted.Tie as tie
+use Rattle.rules.specs.Rules.{unbudgeted}
+use Rattle.rules.proofs.Laws.{leb-not}
+use Rattle.rules.proofs.jobs.unbudgeted.Statement.{statement}
+use Rattle.rules.proofs.jobs.unbudgeted.Tie as tie
 
 returns : tie.Need-returns
 unfolding unbudgeted

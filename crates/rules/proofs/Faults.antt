@@ -13,7 +13,7 @@ use Rattle.model.specs.Lists.{any, mem, cut}
 use Rattle.model.specs.Refusals.{faultFrom, fault}
 use Rattle.laws.proofs.Bools.{split, and-no-r}
 use Rattle.laws.proofs.Members.{cut-step, cut-more}
-use Rattle.checks.proofs.Laws.{not-or, or-swap}
+use Rattle.rules.proofs.Laws.{not-or, or-swap}
 
 from-cong : (f g : ℕ → Bool) (a b : List ℕ) (k : ℕ) (l : List ℕ) → ((j : ℕ) → (f j && not (mem j a)) ≡ (g j && not (mem j b)))
     → faultFrom f a k l ≡ faultFrom g b k l

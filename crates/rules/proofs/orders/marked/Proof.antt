@@ -1,13 +1,13 @@
--- `checks::orders::marked` meets its contract: 0 and numbers past 64 have no place. Assumes nothing.
+-- `rules::orders::marked` meets its contract: 0 and numbers past 64 have no place. Assumes nothing.
 use mathlib.Core.Bool.{false}
 use mathlib.Core.Path.{_≡_, sym}
 use native.Mathlib.Omega.{arith}
 use borrow.Author.Needs.{needs}
 use Rattle.model.specs.Lists.{at}
 use Rattle.laws.proofs.Places.{at-in, at-out}
-use Rattle.checks.specs.Rules.{marked}
-use Rattle.checks.proofs.orders.marked.Statement.{statement}
-use Rattle.checks.proofs.orders.marked.Tie as tie
+use Rattle.rules.specs.Rules.{marked}
+use Rattle.rules.proofs.orders.marked.Statement.{statement}
+use Rattle.rules.proofs.orders.marked.Tie as tie
 
 returns : tie.Need-returns
 unfolding marked at

@@ -1,9 +1,9 @@
--- `checks::jobs::breaks` meets its contract: the number's test says whose rule it is. Assumes nothing.
+-- `rules::jobs::breaks` meets its contract: the number's test says whose rule it is. Assumes nothing.
 use borrow.Author.Needs.{needs}
 use borrow.Author.Tests.{eq-eqb, ne-eqb}
-use Rattle.checks.specs.Rules.{breaks}
-use Rattle.checks.proofs.jobs.breaks.Statement.{statement}
-use Rattle.checks.proofs.jobs.breaks.Tie as tie
+use Rattle.rules.specs.Rules.{breaks}
+use Rattle.rules.proofs.jobs.breaks.Statement.{statement}
+use Rattle.rules.proofs.jobs.breaks.Tie as tie
 
 untimely-requires : tie.Need-untimely-requires
 untimely-requires c κs = search needs

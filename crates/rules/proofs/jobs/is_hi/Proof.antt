@@ -1,8 +1,8 @@
--- `checks::jobs::is_hi` meets its contract, by each case of the match. Assumes nothing.
+-- `rules::jobs::is_hi` meets its contract, by each case of the match. Assumes nothing.
 use borrow.Author.Needs.{needs}
 use Rattle.model.specs.Sets.{isHi}
-use Rattle.checks.proofs.jobs.is_hi.Statement.{statement}
-use Rattle.checks.proofs.jobs.is_hi.Tie as tie
+use Rattle.rules.proofs.jobs.is_hi.Statement.{statement}
+use Rattle.rules.proofs.jobs.is_hi.Tie as tie
 
 enum-told : tie.Need-enum-told
 enum-told c = search needs
