@@ -3,7 +3,7 @@
 
     python3 independent/cases.py > crates/comparison/data/cases.txt
 
-The same file on every machine. The language is that of answers.py; each line of an answer begins with `=`.
+The file is the same on every machine. Its language is that of answers.py; each line of an answer begins with `=`.
 """
 
 import sys
@@ -12,19 +12,17 @@ from itertools import permutations, product
 import texts
 from answers import answered
 from dice import Dice
-from model import ALL_RUNS, HI, LO, Job, Set, hi_jobs, longest, number_of_runs, numbers_of, span, worst_finishes
+from model import ALL_RUNS, HI, LO, Job, Set, hi_jobs, number_of_runs, numbers_of, worst_finishes
+from questions import KINDS, OF_A_REFUSED_SET, a_part, a_part_past, a_run, a_run_outside, enough_room, spaced, too_little_room
 from refusals import given
-from sets import FAR, crowded, faulty, late_in_hi, late_in_lo, loose, one_below, rough, tight, with_deadline
+from sets import FAR, crowded, faulty, late_in_hi, late_in_lo, loose, one_below, rough, tight, with_deadline, with_long_span
 
+# The lines so far, without the answers
 LINES = []
 
 
 def ask(*questions):
     LINES.extend("? " + question for question in questions)
-
-
-def spaced(word, numbers):
-    return " ".join([word] + [str(x) for x in numbers])
 
 
 def put_given(name, g):
@@ -45,102 +43,58 @@ def put_text(text):
     ask("print")
 
 
-# Questions
-
-
-def a_run(dice, s):
-    """Running times within their ranges: any, mostly LO budgets, or mostly the largest; and sometimes some beyond N."""
-    kind = dice.below(3)
-    times = []
-    for job in s.jobs:
-        if dice.below(3) == 0 or kind == 0:
-            times.append(dice.between(1, longest(job)))
-        else:
-            times.append(job.lo_budget if kind == 1 else longest(job))
-    return spaced("run", times + [0, 65535][: dice.below(6)])
-
-
-def a_run_outside(dice, s):
-    """Running times of which some lie outside their range."""
-    times = [dice.between(1, longest(job)) for job in s.jobs]
-    for _ in range(dice.between(1, 2)):
-        i = dice.below(len(times))
-        times[i] = dice.choice([0, longest(s.jobs[i]) + 1, longest(s.jobs[i]) + 1, 65535])
-    return spaced("run", times)
-
-
-def enough_room(dice, s):
-    return "tables in %d and %d" % (span(s) + dice.choice([0, 0, 1, 3]), span(s) + dice.choice([0, 0, 1, 3]))
-
-
-def too_little_room(dice, s):
-    short, other = max(span(s) - dice.choice([1, 1, 2, 7]), 0), span(s) + dice.choice([-1, 0, 0, 2])
-    return "tables in %d and %d" % dice.choice([(short, other), (other, short), (short, short), (0, other)])
-
-
-def a_part(dice, s):
-    """A part within the table, which now and then is longer than the span, or too short to be made."""
-    n = span(s) + dice.choice([0, 0, 0, 1, 2, -1])
-    return "part from %d of %d" % (dice.choice([dice.between(0, n), dice.between(0, n), n, max(n - 1, 0)]), n)
-
-
-def a_part_past(dice, s):
-    n = span(s) + dice.choice([0, 0, 1, -1])
-    past = [n + 1, n + 1, n + 2, n + dice.between(1, 99), 65536, 65536 + dice.between(0, n), 2**32, 2**32 + dice.between(0, n), 2**64 - 1]
-    return "part from %d of %d" % (dice.choice(past), n)
-
-
-def a_pick(dice, s):
-    return spaced("at %d done" % dice.between(0, 6), [dice.below(2) for _ in s.jobs])
-
-
-QUESTIONS = [a_run, a_run, a_run_outside, enough_room, too_little_room, a_part, a_part_past, a_pick]
-
-
 # Groups of cases
 
 
 def systematic():
-    """Every set of one job and many of two, with each deadline in turn at the worst finish and one below."""
+    """All sets of one or two jobs of five kinds with arrivals 0 and 1: fit with every margin 0, and with one deadline one less."""
     kinds = [(LO, 1, 1), (LO, 2, 2), (HI, 1, 2), (HI, 1, 3), (HI, 2, 3)]
     number = 0
     for N in (1, 2):
-        for chosen, arrivals in product(product(kinds, repeat=N), [(0, 0), (0, 1), (1, 0)]):
+        for chosen, arrivals in product(product(kinds, repeat=N), product((0, 1), repeat=N)):
             jobs = tuple(Job(A, FAR, *kind) for A, kind in zip(arrivals, chosen))
-            number += 1
-            s = Set(jobs, tuple(numbers_of(Set(jobs, (), ())))[:: -1 if number % 2 else 1], ())
-            for hi_order in list(permutations(hi_jobs(s)))[number % 4 // 2 :: 2] or [tuple(hi_jobs(s))]:
-                s = s._replace(hi_order=hi_order)
-                for j, worst in zip(numbers_of(s), worst_finishes(s)):
-                    s = with_deadline(s, j, worst)
-                put("each_%d" % number, s)
-                ask("judge")
-                j = number % N + 1
-                put("each_%d_late" % number, with_deadline(s, j, s.jobs[j - 1].D - 1))
-                ask("judge")
+            orders = product(permutations(range(1, N + 1)), permutations(hi_jobs(Set(jobs, (), ()))))
+            for lo_order, hi_order in orders:
+                number += 1
+                # One in three: the rest would say little more.
+                if number % 3 == 0:
+                    both_sides(number, Set(jobs, lo_order, hi_order))
+
+
+def both_sides(number, s):
+    for j, worst in zip(numbers_of(s), worst_finishes(s)):
+        s = with_deadline(s, j, worst)
+    put("each_%d" % number, s)
+    ask("judge")
+    j = number % len(s.jobs) + 1
+    put("each_%d_less" % number, with_deadline(s, j, s.jobs[j - 1].D - 1))
+    ask("judge")
+
+
+def few_runs(dice, N, most):
+    """A loose set with at most so many runs."""
+    s = loose(dice, N, dice.choice([0, 3, 6]), 3, 3, dice.between(1, 4))
+    return s if number_of_runs(s) <= most else few_runs(dice, N, most)
 
 
 def small(dice):
-    """Random sets that all runs decide, with deadlines on both sides of the limits; each question of some of them."""
+    """Sets that all runs decide, with deadlines on both sides of the limits; each is asked some questions."""
     for number in range(300):
-        s = loose(dice, dice.between(1, 4), dice.choice([0, 3, 6]), 3, 3, dice.between(1, 4))
-        while number_of_runs(s) > ALL_RUNS // 2:
-            s = loose(dice, dice.between(1, 4), 3, 2, 2, 2)
-        s = dice.choice([tight, one_below, late_in_lo, late_in_hi, late_in_hi, rough])(dice, s)
-        g = given(s)
-        put_given("small_%d" % number, crowded(dice, g)._replace(N=g.N, lo_count=g.lo_count, hi_count=g.hi_count) if number % 4 == 0 else g)
+        s = few_runs(dice, dice.between(1, 4), ALL_RUNS // 2)
+        s = dice.choice([tight, one_below, late_in_lo, late_in_lo, late_in_hi, rough])(dice, s)
+        put_given("small_%d" % number, crowded(dice, given(s)) if number % 4 == 0 else given(s))
         ask("judge", "worst finishes", "margins")
         if number % 2 == 0:
             ask("finishes")
-        for _ in range(3):
-            ask(dice.choice(QUESTIONS)(dice, s))
         if number % 3 == 0:
             ask("checks", "span")
+        for _ in range(4):
+            ask(dice.choice(KINDS)(dice, s))
 
 
 def larger(dice):
     """Sets with too many runs to try: by the scenarios."""
-    for number in range(70):
+    for number in range(60):
         s = loose(dice, dice.between(5, 12), dice.choice([0, 10, 30]), 6, 6, dice.between(1, 4))
         s = dice.choice([tight, one_below, late_in_lo, late_in_hi])(dice, s)
         put("larger_%d" % number, s)
@@ -162,93 +116,84 @@ def full(dice):
 
 
 def long_spans(dice):
-    """Spans of 4,095 and 4,096, which are good, made up of few long jobs, a late arrival, or both."""
+    """Spans of 4,096, and some of 4,095: few long jobs, or a late arrival."""
     for number in range(16):
         s = loose(dice, dice.between(1, 3), dice.choice([0, 5, 900]), 400, 400, 2)
-        j = dice.choice(numbers_of(s))
-        job, missing = s.jobs[j - 1], 4096 - number % 4 // 3 - span(s)
-        if number % 2 == 0:
-            s = s._replace(jobs=s.jobs[: j - 1] + (job._replace(hi_budget=job.hi_budget + missing),) + s.jobs[j:])
-            if job.level == LO:
-                s = s._replace(jobs=s.jobs[: j - 1] + (s.jobs[j - 1]._replace(lo_budget=s.jobs[j - 1].hi_budget),) + s.jobs[j:])
-        else:
-            last = max(other.A for other in s.jobs) + missing
-            s = s._replace(jobs=s.jobs[: j - 1] + (job._replace(A=last),) + s.jobs[j:])
+        s = with_long_span(dice, s, 4095 if number % 4 == 3 else 4096)
         s = (tight, one_below, late_in_hi)[number % 3](dice, s)
         put("long_%d" % number, s)
         ask("checks", "span", "judge", "worst finishes", "margins", enough_room(dice, s), too_little_room(dice, s), a_part(dice, s))
         ask("finishes", a_run(dice, s), a_part_past(dice, s))
+        put_text(texts.text_of(s))
 
 
 def faults(dice):
-    """Sets with one fault, with two, and with several, of numbers 2 to 7; some with rubbish in the room."""
-    chosen = [[k] for k in range(2, 8)] * 14 + [[k, m] for k in range(2, 8) for m in range(k + 1, 8)] * 18 + [list(range(k, 8)) for k in range(2, 7)] * 6
+    """Sets with one fault, with two and with several, of numbers 2 to 7; some with rubbish in the room."""
+    numbers = range(2, 8)
+    chosen = [[k] for k in numbers] * 14 + [[k, m] for k in numbers for m in numbers if k < m] * 14
+    chosen += [list(range(k, 8)) for k in numbers] * 6 + [[5, 6], [5, 7], [6, 7]] * 20 + [[7]] * 90
     for number, kinds in enumerate(chosen):
-        s = loose(dice, dice.between(2, 5), dice.choice([0, 4]), 3, 3, 3)
-        s = tight(dice, s)
+        s = tight(dice, loose(dice, dice.between(2, 5), dice.choice([0, 4]), 3, 3, 3))
         g = faulty(dice, s, kinds)
-        if number % 5 == 0:
-            g = crowded(dice, g)
-        put_given("fault_%d" % number, g)
+        put_given("fault_%d" % number, crowded(dice, g) if number % 5 == 0 else g)
         ask("checks")
-        if g.N in range(1, 65):
+        if number % 4 == 0 and g.N in range(1, 65):
             ask("span")
         if number % 2 == 0:
-            ask("judge", dice.choice(["finishes", "worst finishes", "margins", "run 1 1 1 1 1", "run 0 0 0", "tables in 0 and 30", "tables in 40 and 40", "part from 1 of 9"]))
+            ask("judge", dice.choice(OF_A_REFUSED_SET))
 
 
 def set_texts(dice):
     """Texts of sets: fit, unfit in either way, and refused with 3 to 7."""
+    for number in range(330):
+        s = few_runs(dice, dice.between(1, 3), ALL_RUNS // 4)
+        put_text(texts.text_of((tight, late_in_lo, late_in_hi, one_below, late_in_lo, late_in_hi)[number % 6](dice, s)))
     for number in range(300):
-        s = loose(dice, dice.between(1, 3), 3, 3, 3, 2)
-        while number_of_runs(s) > ALL_RUNS // 4:
-            s = loose(dice, dice.between(1, 3), 3, 2, 2, 2)
-        put_text(texts.text_of(dice.choice([tight, tight, one_below, late_in_lo, late_in_hi, late_in_hi])(dice, s)))
-    for number in range(200):
-        s = loose(dice, dice.between(1, 4), 3, 3, 3, 3)
-        kinds = [number % 5 + 3] + ([dice.between(number % 5 + 3, 7)] if number % 2 else [])
-        g = faulty(dice, tight(dice, s), kinds)
+        s = tight(dice, loose(dice, dice.between(1, 4), 3, 3, 3, 3))
+        first = number % 5 + 3
+        g = faulty(dice, s, [first, dice.between(first, 7)] if number % 2 == 0 else [first])
         put_text(texts.text_of(Set(g.jobs, g.lo_order, g.hi_order)))
 
 
-def bad_texts(dice):
+def other_texts(dice):
     """Damaged, cut, lengthened and random texts."""
     some = [texts.text_of(tight(dice, loose(dice, dice.between(1, 4), 9, 9, 9, 2))) for _ in range(20)] + [texts.P, texts.ONE, texts.PAIR]
     every = list(texts.damaged_everywhere(texts.ONE, lambda i: texts.BYTES))
-    every += list(texts.damaged_everywhere(texts.P, lambda i: dice.some(texts.BYTES, 2)))
+    every += texts.damaged_everywhere(texts.P, lambda i: dice.some(texts.BYTES, 2))
     every += [texts.damaged(dice, dice.choice(some)) for _ in range(200)]
-    every += [texts.damaged(dice, texts.damaged(dice, dice.choice(some)) or texts.P) for _ in range(50)]
-    every += list(texts.odd_numbers(texts.PAIR))
-    every += list(texts.odd_counts(texts.PAIR, 11, 14)) + list(texts.odd_counts(texts.ONE, 6, 8)) + list(texts.odd_counts(texts.P, 16, 20))
+    every += [texts.damaged(dice, texts.damaged(dice, dice.choice(some)) + "\n") for _ in range(50)]
+    every += texts.odd_numbers(texts.PAIR)
     for text in (texts.ONE, texts.P, texts.PAIR):
-        every += list(texts.odd_lines(text)) + list(texts.with_more(text))
+        every += [*texts.odd_counts(text), *texts.odd_lines(text), *texts.with_more(text)]
     every += [texts.random_text(dice, some) for _ in range(250)]
-    every += list(texts.long_texts())
+    every += texts.long_texts()
     for text in dict.fromkeys(every):
         put_text(text)
 
 
-# The kinds of answers
+# The kinds of cases, each at least 100 strong
+
+VERDICTS = ["fit", "unfit in LO", "unfit in HI"]
+STRONG = (
+    ["%s by %s" % (verdict, question) for verdict in VERDICTS for question in ("judge", "print")]
+    + ["refusal %d" % number for number in range(1, 11)]
+    + ["good " + question for question in ("checks", "finishes", "run", "tables", "part")]
+    + ["at", "margins", "span", "worst"]
+)
 
 
-def kinds_of(question, answer):
-    """Of what kinds a case is."""
-    words = answer[0].split() or [""]
-    kinds = [question[0]]
-    if words[0] in ("UNFIT", "FIT"):
-        if words[0] == "FIT":
-            kinds.append("fit")
-        else:
-            kinds.append("unfit in LO" if words[1] == "0" else "unfit in HI")
-    elif words[0] in ("refused", "REFUSED"):
-        kinds.append("refusal " + words[1].rstrip("|"))
-    elif words[0] == "good":
-        kinds.append("good " + question[0])
-    return kinds
+def kind(question, answer):
+    """What is asked and how it is answered."""
+    words = answer[0].replace("|", " ").split()
+    if words and words[0] in ("refused", "REFUSED"):
+        return "refusal " + words[1]
+    if words and words[0] in ("FIT", "UNFIT"):
+        return VERDICTS[0 if words[0] == "FIT" else 1 if words[1] == "0" else 2] + " by " + question
+    return "good " + question if words and words[0] == "good" else question
 
 
 def main():
-    LINES.append("# Cases with their answers by document 01. Made by independent/cases.py, which also says what the words mean; not written by hand.")
+    LINES.append("# Cases with their answers by document 01. Made by independent/cases.py, which says how; never written by hand.")
     systematic()
     small(Dice(1))
     larger(Dice(2))
@@ -256,16 +201,16 @@ def main():
     long_spans(Dice(4))
     faults(Dice(5))
     set_texts(Dice(6))
-    bad_texts(Dice(7))
-    counts = {}
+    other_texts(Dice(7))
+    counts = dict.fromkeys(STRONG, 0)
     for _, line, answer in answered(LINES):
-        sys.stdout.write(line + "\n")
+        print(line)
         if answer is not None:
-            sys.stdout.write("".join("=" + words + "\n" for words in answer))
-            for kind in kinds_of(line.split()[1:], answer):
-                counts[kind] = counts.get(kind, 0) + 1
-    for kind in sorted(counts):
-        print("%5d %s" % (counts[kind], kind), file=sys.stderr)
+            print("\n".join("=" + words for words in answer))
+            counts[kind(line.split()[1], answer)] += 1
+    for name in STRONG:
+        print("%5d %s" % (counts[name], name), file=sys.stderr)
+        assert counts[name] >= 100, name
 
 
 if __name__ == "__main__":

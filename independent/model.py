@@ -57,7 +57,6 @@ def run(s, times):
     """
     had = {j: 0 for j in numbers_of(s)}
     finish = {j: 0 for j in numbers_of(s)}
-    dropped = set()
     mode, switch, slots = LO, None, []
     budgets = [(j, s.jobs[j - 1].lo_budget) for j in hi_jobs(s)]
     # "A run covers the slots before the span"
@@ -66,13 +65,12 @@ def run(s, times):
         if mode == LO and any(had[j] == budget < times[j - 1] for j, budget in budgets):
             mode, switch = HI, t
         # "2. In HI mode every unfinished LO job, also one that arrives later, is dropped and never runs."
-        if mode == HI:
-            dropped = {j for j in numbers_of(s) if finish[j] == 0 and not is_hi(s, j)}
         # "3. Of the jobs that have arrived, are unfinished and not dropped, the highest in the order of the present mode gets the slot.
         # If there is none, the slot is idle."
         slot = 0
         for j in s.lo_order if mode == LO else s.hi_order:
-            if s.jobs[j - 1].A <= t and finish[j] == 0 and j not in dropped:
+            dropped = mode == HI and s.jobs[j - 1].level == LO
+            if s.jobs[j - 1].A <= t and finish[j] == 0 and not dropped:
                 slot = j
                 break
         slots.append(slot)
@@ -82,7 +80,7 @@ def run(s, times):
             if had[slot] == times[slot - 1]:
                 finish[slot] = t + 1
     # "by then every job that isn't dropped has finished"
-    assert all(finish[j] != 0 or j in dropped for j in numbers_of(s))
+    assert all(finish[j] != 0 or (mode == HI and not is_hi(s, j)) for j in numbers_of(s))
     # "Executing one given run answers each job's finish, 0 for a dropped job, and the instant of the switch if there is one."
     return Run(tuple(slots), tuple(finish[j] for j in numbers_of(s)), switch)
 

@@ -1,6 +1,6 @@
 """Sets for the cases: good ones with deadlines on both sides of a limit, and sets with faults."""
 
-from model import HI, LO, Job, Set, finish_rows, hi_jobs, numbers_of, worst_finishes
+from model import HI, LO, Job, Set, finish_rows, hi_jobs, numbers_of, span, worst_finishes
 from refusals import given
 
 FAR = 65535  # a deadline that no job misses
@@ -70,6 +70,17 @@ def rough(dice, s):
     for j in numbers_of(s):
         s = with_deadline(s, j, s.jobs[j - 1].A + dice.between(1, 12))
     return s
+
+
+def with_long_span(dice, s, length):
+    """The set with a budget or an arrival so much larger that the span is of this length."""
+    j = dice.choice(numbers_of(s))
+    job, missing = s.jobs[j - 1], length - span(s)
+    if dice.below(2) == 0:
+        return with_job(s, j, A=max(other.A for other in s.jobs) + missing)
+    if job.level == HI:
+        return with_job(s, j, hi_budget=job.hi_budget + missing)
+    return with_job(s, j, lo_budget=job.lo_budget + missing, hi_budget=job.hi_budget + missing)
 
 
 # Sets with faults: each function puts a fault of its number into a set as given, whatever faults that has.

@@ -75,9 +75,10 @@ def odd_numbers(text):
             yield with_word(text, k, word)
 
 
-def odd_counts(text, second, third):
-    """Each count in turn replaced by other numbers; the second and third stand at these places among the numbers."""
-    for k in (0, second, third):
+def odd_counts(text):
+    """Each of the three counts in turn replaced by other numbers."""
+    N = int(text.split()[0])
+    for k in (0, 1 + 5 * N, 2 + 6 * N):
         for count in "0 1 2 3 4 5 6 7 9 10 20 30 31 60 63 64 65 66 69 70 100 640 641 6400 64000 00 064".split():
             yield with_word(text, k, count)
 
