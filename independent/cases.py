@@ -56,31 +56,33 @@ def systematic():
             orders = product(permutations(range(1, N + 1)), permutations(hi_jobs(Set(jobs, (), ()))))
             for lo_order, hi_order in orders:
                 number += 1
-                # One in three: the rest would say little more.
-                if number % 3 == 0:
-                    both_sides(number, Set(jobs, lo_order, hi_order))
+                both_sides(number, Set(jobs, lo_order, hi_order))
 
 
 def both_sides(number, s):
+    """The set with every deadline at the worst finish; and with one of them one less, where that is still after the arrival."""
     for j, worst in zip(numbers_of(s), worst_finishes(s)):
         s = with_deadline(s, j, worst)
     put("each_%d" % number, s)
     ask("judge")
     j = number % len(s.jobs) + 1
-    put("each_%d_less" % number, with_deadline(s, j, s.jobs[j - 1].D - 1))
-    ask("judge")
+    if s.jobs[j - 1].D > s.jobs[j - 1].A + 1:
+        put("each_%d_less" % number, with_deadline(s, j, s.jobs[j - 1].D - 1))
+        ask("judge")
 
 
 def few_runs(dice, N, most):
     """A loose set with at most so many runs."""
-    s = loose(dice, N, dice.choice([0, 3, 6]), 3, 3, dice.between(1, 4))
-    return s if number_of_runs(s) <= most else few_runs(dice, N, most)
+    while True:
+        s = loose(dice, N, dice.choice([0, 3, 6, 12]), dice.between(1, 3), dice.between(1, 3), dice.between(1, 4))
+        if number_of_runs(s) <= most:
+            return s
 
 
 def small(dice):
     """Sets that all runs decide, with deadlines on both sides of the limits; each is asked some questions."""
     for number in range(300):
-        s = few_runs(dice, dice.between(1, 4), ALL_RUNS // 2)
+        s = few_runs(dice, dice.choice([1, 2, 3, 3, 4, 4, 5, 6]), ALL_RUNS // 2)
         s = dice.choice([tight, one_below, late_in_lo, late_in_lo, late_in_hi, rough])(dice, s)
         put_given("small_%d" % number, crowded(dice, given(s)) if number % 4 == 0 else given(s))
         ask("judge", "worst finishes", "margins")
@@ -98,9 +100,9 @@ def larger(dice):
         s = loose(dice, dice.between(5, 12), dice.choice([0, 10, 30]), 6, 6, dice.between(1, 4))
         s = dice.choice([tight, one_below, late_in_lo, late_in_hi])(dice, s)
         put("larger_%d" % number, s)
-        ask("judge", "worst finishes", "margins", a_run(dice, s))
+        ask("judge", "worst finishes", "margins", a_run(dice, s), enough_room(dice, s))
         if number % 3 == 0:
-            ask("finishes", enough_room(dice, s), a_part(dice, s))
+            ask("finishes", a_part(dice, s))
 
 
 def full(dice):
@@ -118,7 +120,7 @@ def full(dice):
 def long_spans(dice):
     """Spans of 4,096, and some of 4,095: few long jobs, or a late arrival."""
     for number in range(16):
-        s = loose(dice, dice.between(1, 3), dice.choice([0, 5, 900]), 400, 400, 2)
+        s = loose(dice, dice.between(2, 3), dice.choice([0, 5, 900]), 400, 400, 2)
         s = with_long_span(dice, s, 4095 if number % 4 == 3 else 4096)
         s = (tight, one_below, late_in_hi)[number % 3](dice, s)
         put("long_%d" % number, s)
@@ -143,10 +145,18 @@ def faults(dice):
             ask("judge", dice.choice(OF_A_REFUSED_SET))
 
 
+def full_faults(dice):
+    """N = 64, and a fault or two."""
+    for number in range(24):
+        s = loose(dice, 64, 40, 2, 2, 2)
+        put_given("full_fault_%d" % number, faulty(dice, s, [number % 6 + 2, dice.between(number % 6 + 2, 7)]))
+        ask("checks")
+
+
 def set_texts(dice):
     """Texts of sets: fit, unfit in either way, and refused with 3 to 7."""
-    for number in range(330):
-        s = few_runs(dice, dice.between(1, 3), ALL_RUNS // 4)
+    for number in range(360):
+        s = few_runs(dice, dice.between(1, 4), ALL_RUNS // 4)
         put_text(texts.text_of((tight, late_in_lo, late_in_hi, one_below, late_in_lo, late_in_hi)[number % 6](dice, s)))
     for number in range(300):
         s = tight(dice, loose(dice, dice.between(1, 4), 3, 3, 3, 3))
@@ -200,8 +210,9 @@ def main():
     full(Dice(3))
     long_spans(Dice(4))
     faults(Dice(5))
-    set_texts(Dice(6))
-    other_texts(Dice(7))
+    full_faults(Dice(6))
+    set_texts(Dice(7))
+    other_texts(Dice(8))
     counts = dict.fromkeys(STRONG, 0)
     for _, line, answer in answered(LINES):
         print(line)

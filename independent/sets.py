@@ -41,18 +41,25 @@ def with_deadline(s, j, D):
     return with_job(s, j, D=max(D, s.jobs[j - 1].A + 1))
 
 
+def that_can_be_late(dice, s, finishes):
+    """Some job that finishes so late that its deadline can be before that and after its arrival; or any, where there is none."""
+    return dice.choice([j for j in numbers_of(s) if finishes[j - 1] > s.jobs[j - 1].A + 1] or numbers_of(s))
+
+
 def one_below(dice, s):
-    """The tight set with one deadline, where that can be, one below the job's worst finish: unfit."""
+    """The tight set with a deadline, where that can be, one below the job's worst finish: unfit."""
     s = tight(dice, s)
-    j = dice.choice(numbers_of(s))
-    return with_deadline(s, j, worst_finishes(s)[j - 1] - 1)
+    worst = worst_finishes(s)
+    j = that_can_be_late(dice, s, worst)
+    return with_deadline(s, j, worst[j - 1] - 1)
 
 
 def late_in_lo(dice, s):
-    """The tight set with a deadline below the job's finish in scenario 0, where that can be."""
+    """The tight set with a deadline, where that can be, below the job's finish in scenario 0."""
     s = tight(dice, s)
-    j = dice.choice(numbers_of(s))
-    return with_deadline(s, j, finish_rows(s)[0][j - 1] - dice.between(1, 2))
+    row = finish_rows(s)[0]
+    j = that_can_be_late(dice, s, row)
+    return with_deadline(s, j, row[j - 1] - dice.between(1, 2))
 
 
 def late_in_hi(dice, s):
