@@ -119,7 +119,11 @@ FAULTS = [
         "a number of a text may have a leading zero",
         [
             ("reader.py", '"(0|[1-9][0-9]{0,4})"', '"[0-9]{1,5}"'),
-            ("reader.py", "setdefault(str(number)[:length], number)", "update({str(number)[:length]: number, '0' + str(number)[:length]: number})"),
+            (
+                "reader.py",
+                "            lowest.setdefault(",
+                "            lowest.setdefault('0' + str(number)[:length], number)\n            lowest.setdefault(",
+            ),
         ],
     ),
     (

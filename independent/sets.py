@@ -103,7 +103,8 @@ def some_job(dice, g, level=None):
     return dice.choice(of_level or range(1, len(g.jobs) + 1))
 
 
-def fault_2(dice, g):
+def count_fault(dice, g):
+    """N 0 or above 64, or an order's count off; by one, or so that 8, 16 or 32 bits would not show it."""
     off = dice.choice([1, -1, 2, 256, 65536, 2**32, 2**64 - 65])
     which = dice.below(5)
     if which == 0:
@@ -115,14 +116,14 @@ def fault_2(dice, g):
     return g._replace(hi_count=g.hi_count + (off if g.hi_count > 0 else abs(off)))
 
 
-def fault_3(dice, g):
+def time_fault(dice, g):
     """D = A, D one below A, or D 0."""
     j = some_job(dice, g)
     A = g.jobs[j - 1].A
     return changed_job(g, j, D=dice.choice([A, A, max(A - 1, 0), 0]))
 
 
-def fault_4(dice, g):
+def budget_fault(dice, g):
     """LO budget 0, a LO job with budgets that differ, a HI job whose HI budget is not above the LO budget."""
     j = some_job(dice, g)
     job = g.jobs[j - 1]
@@ -134,7 +135,7 @@ def fault_4(dice, g):
     return changed_job(g, j, hi_budget=dice.choice([low + 1, low - 1, 0, low + 5]))
 
 
-def fault_5(dice, g):
+def span_fault(dice, g):
     """A budget or an arrival so large that the span is 4,097, a little more, past 65,535, or so that 16 bits would leave little of it."""
     j = some_job(dice, g)
     job = g.jobs[j - 1]
@@ -153,7 +154,7 @@ def changed_entry(order, i, entry):
     return order[:i] + (entry,) + order[i + 1 :]
 
 
-def fault_6(dice, g):
+def lo_order_fault(dice, g):
     """An entry of the LO order 0, above N, or one that stands elsewhere."""
     if not g.lo_order:
         return g
@@ -163,7 +164,7 @@ def fault_6(dice, g):
     return g._replace(lo_order=changed_entry(g.lo_order, i, entry))
 
 
-def fault_7(dice, g):
+def hi_order_fault(dice, g):
     """An entry of the HI order 0, above N, a LO job, or one that stands elsewhere."""
     if not g.hi_order:
         return g
@@ -173,7 +174,7 @@ def fault_7(dice, g):
     return g._replace(hi_order=changed_entry(g.hi_order, i, entry))
 
 
-FAULTS = {2: fault_2, 3: fault_3, 4: fault_4, 5: fault_5, 6: fault_6, 7: fault_7}
+FAULTS = {2: count_fault, 3: time_fault, 4: budget_fault, 5: span_fault, 6: lo_order_fault, 7: hi_order_fault}
 
 
 def faulty(dice, s, numbers):
