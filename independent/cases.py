@@ -133,7 +133,7 @@ def faults(dice):
     """Sets with one fault, with two and with several, of numbers 2 to 7; some with rubbish in the room."""
     numbers = range(2, 8)
     chosen = [[k] for k in numbers] * 14 + [[k, m] for k in numbers for m in numbers if k < m] * 14
-    chosen += [list(range(k, 8)) for k in numbers] * 6 + [[5, 6], [5, 7], [6, 7]] * 20 + [[7]] * 90
+    chosen += [list(range(k, 8)) for k in numbers] * 6 + [[5, 6], [5, 7], [6, 7]] * 20 + [[2], [6]] * 20 + [[7]] * 90
     for number, kinds in enumerate(chosen):
         s = tight(dice, loose(dice, dice.between(2, 5), dice.choice([0, 4]), 3, 3, 3))
         g = faulty(dice, s, kinds)
@@ -193,10 +193,11 @@ STRONG = (
 
 
 def kind(question, answer):
-    """What is asked and how it is answered."""
+    """What is asked and how it is answered. A refused set counts once, by `checks`, and not by what else is asked of it."""
     words = answer[0].replace("|", " ").split()
     if words and words[0] in ("refused", "REFUSED"):
-        return "refusal " + words[1]
+        once = int(words[1]) > 7 or question in ("checks", "print")
+        return "refusal " + words[1] if once else "refused " + question
     if words and words[0] in ("FIT", "UNFIT"):
         return VERDICTS[0 if words[0] == "FIT" else 1 if words[1] == "0" else 2] + " by " + question
     return "good " + question if words and words[0] == "good" else question
@@ -218,10 +219,11 @@ def main():
         print(line)
         if answer is not None:
             print("\n".join("=" + words for words in answer))
-            counts[kind(line.split()[1], answer)] += 1
-    for name in STRONG:
+            name = kind(line.split()[1], answer)
+            counts[name] = counts.get(name, 0) + 1
+    for name in counts:
         print("%5d %s" % (counts[name], name), file=sys.stderr)
-        assert counts[name] >= 100, name
+    assert all(counts[name] >= 100 for name in STRONG)
 
 
 if __name__ == "__main__":
