@@ -13,17 +13,19 @@ use native.Mathlib.Omega.{arith}
 use native.Mathlib.Numerals.{add-one}
 use lib.ListN.{getD, replicate}
 use Rattle.model.specs.declared.Miss.{Miss}
+use Rattle.model.specs.declared.Ran.{Ran}
 use Rattle.model.specs.declared.Judged.{Judged}
 use Rattle.model.specs.declared.Judgement.the-variants.{Found as FoundVerdict}
 use Rattle.model.specs.declared.Verdict.the-variants.{Fit, Unfit}
 use Rattle.model.specs.Runs.{mark, outcomeIn}
 use Rattle.model.specs.Scenarios.{zeros, timesOf, finishIn, lateIn, verdict, timesBeside}
-use Rattle.analysis.specs.declared.columns.Columns.{Columns}
-use Rattle.analysis.specs.declared.engine.Run.{Run}
-use Rattle.analysis.specs.Columns.{viewOf, runOf}
+use Rattle.columns.specs.declared.Columns.{Columns}
+use Rattle.columns.specs.Columns.{viewOf, Testable}
+use Rattle.columns.proofs.Entries.{part-e}
+use Rattle.runs.specs.Engine.{runOf}
 use Rattle.measures.specs.Measures.{missedBy}
-use Rattle.analysis.specs.Tests.{numbered, plays, Testable, unfitIn, found}
-use Rattle.analysis.proofs.Search.{rest, rest-skip, rest-pass, rest-fail, rest-end, Passed, part-e, finish-is, late-none, late-is, plays-in, plays-out, missed-turn}
+use Rattle.analysis.specs.Tests.{numbered, plays, unfitIn, found}
+use Rattle.analysis.proofs.Search.{rest, rest-skip, rest-pass, rest-fail, rest-end, Passed, finish-is, late-none, late-is, plays-in, plays-out, missed-turn}
 
 -- the answer where job j ends at f in scenario x
 abbrev missIn : ℕ → ℕ → ℕ → Miss
@@ -54,9 +56,9 @@ module _ (k : Columns) (h : Testable k) where
 
   pub found-fit : (x job f : ℕ) (c : List ℕ) → verdict (viewOf k) ≡ rest (viewOf k) x → k .n < x → Found k x job f c
   found-fit x job f c e q =
-      inl (q, e ∙ rest-end (viewOf k) x (omega arith) (λ j a. omega (arith, part-e k h j a)))
+      inl (q, e ∙ rest-end (viewOf k) x (omega arith) (λ j a. omega (arith, part-e k j a)))
 
-  pub found-miss : (x job f : ℕ) (c : List ℕ) (r : Run) (b : Bool) → verdict (viewOf k) ≡ rest (viewOf k) x → x ≤ k .n
+  pub found-miss : (x job f : ℕ) (c : List ℕ) (r : Ran) (b : Bool) → verdict (viewOf k) ≡ rest (viewOf k) x → x ≤ k .n
       → plays (viewOf k) x ≡ true → c ≡ timesOf (viewOf k) (numbered x) → r ≡ runOf (viewOf k) c → Passed k c job → job < k .n
       → f ≡ getD (r .finishes) job 0
       → b ≡ missedBy (getD (k .critical) job false) (getD (k .deadlines) job 0) (getD (r .finishes) job 0) (r .switch) → b ≡ true
@@ -69,7 +71,7 @@ module _ (k : Columns) (h : Testable k) where
       let end : finishIn v (numbered x) (suc job) ≡ f =
       ap (λ d. mark (outcomeIn v d (suc job))) (sym g)
       ∙ sym (finish-is k h c job l)
-      ∙ ap (λ (y : Run). getD (y .finishes) job 0) (sym run)
+      ∙ ap (λ (y : Ran). getD (y .finishes) job 0) (sym run)
       ∙ sym ends in
       inr (
         q,

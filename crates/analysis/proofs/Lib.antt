@@ -1,20 +1,7 @@
 -- Laws that the proofs of the analysis cite.
-pub mod Fill
-pub mod Jobs
-pub mod Views
-pub mod Account
-pub mod Overruns
-pub mod Starts
-pub mod Steps
-pub mod Progress
-pub mod Advance
 pub mod Raised
 pub mod Search
+pub mod Scenarios
 pub mod Found
 pub mod RowLaws
-pub mod Room
-pub mod Slots
-pub mod Tables
 pub mod AnswerLaws
-pub mod TableAnswers
-pub mod RangeLaws

@@ -1,7 +1,6 @@
 -- The running times of scenario x, from the finishes of scenario 0: of two HI jobs, one is done at the other's turn exactly if it does not
 -- end after it.
 --   end-turn                 == what scenario 0 marks of a HI job is its turn
---   column-..                == what the view says of job i + 1 stands at place i of its column
 --   timeIn k x j             == the time of job j in scenario x;  raised-test: when it is raised, by the columns and the finishes
 --   times-lo                 == scenario 0 has the LO budgets
 --   times-more, times-hi     == a turn of the loop over the jobs; after it
@@ -14,19 +13,21 @@ use native.Mathlib.Omega.{arith}
 use native.Mathlib.Numerals.{add-one}
 use lib.Dec.{eqb, leb, ltb}
 use lib.ListN.{getD, set}
-use borrow.Author.Tests.{eq-eqb, ne-eqb, le-leb, lt-ltb, le-ltb}
+use borrow.Author.Tests.{eq-eqb, ne-eqb, lt-ltb, le-ltb}
+use Rattle.model.specs.declared.Scenario.the-variants.{Lo}
 use Rattle.model.specs.Lists.{at}
 use Rattle.model.specs.Sets.{View, critical}
 use Rattle.model.specs.Runs.{time, doneAt, mark, outcomeIn}
-use Rattle.model.specs.Scenarios.{places, loTimes, turn, hiTime, timesOf}
-use Rattle.laws.proofs.Bools.{tests, split, and-i}
-use Rattle.laws.proofs.Places.{at-in, cond-hi}
+use Rattle.model.specs.Scenarios.{places, loTimes, turn, hiTime, timesOf, finishIn, row}
+use Rattle.laws.proofs.Bools.{tests, split}
+use Rattle.laws.proofs.Places.{at-in}
 use Rattle.laws.proofs.Sound.{Sound}
 use Rattle.laws.proofs.Turns.{place-time, done-turn, hi-mark}
-use Rattle.analysis.specs.declared.columns.Columns.{Columns}
-use Rattle.analysis.specs.Columns.{viewOf, listed, runOf}
+use Rattle.columns.specs.declared.Columns.{Columns}
+use Rattle.columns.specs.Columns.{viewOf, listed}
+use Rattle.columns.proofs.Entries.{part-is, critical-is, lo-is, hi-is}
 use Rattle.analysis.specs.Tests.{numbered, Playable}
-use Rattle.analysis.proofs.Fill.{upTo, upTo-more, upTo-places}
+use Rattle.laws.proofs.Fill.{upTo, upTo-more, upTo-places}
 
 not-leb : (m n : ℕ) → not (leb m n) ≡ ltb n m
 not-leb m n =
@@ -34,31 +35,10 @@ not-leb m n =
     (λ p. rw p (sym (le-ltb n m (omega (tests, p)))))
     (λ p. rw p (sym (lt-ltb n m (omega (tests, p)))))
 
-at-next {ℓ} : {A : Type ℓ} (l : List A) (i : ℕ) (d : A) → at l (suc i) d ≡ getD l i d
-at-next l i d = at-in l (suc i) d (omega arith) ∙ ap (λ k. getD l k d) (omega arith)
-
 end-turn : (v : View) → Sound v → (j : ℕ) → v .policy .part j ≡ true → critical (v .policy) j ≡ true
-    → at (runOf v (loTimes v) .finishes) j 0 ≡ turn v j
-unfolding runOf time turn
+    → at (row v Lo) j 0 ≡ turn v j
+unfolding row finishIn timesOf time turn
 end-turn v s j a k = place-time v (λ i. mark (outcomeIn v (loTimes v) i)) j (s .ordered) a ∙ hi-mark v (loTimes v) j k
-
--- what the view says of job i + 1 stands at place i of its column
-module _ (k : Columns) (i : ℕ) where
-  column-part : i < k .n → viewOf k .policy .part (suc i) ≡ true
-  unfolding viewOf listed
-  column-part q = and-i (le-leb 1 (suc i) (omega arith)) (le-leb (suc i) (k .n) (omega arith))
-
-  column-critical : critical (viewOf k .policy) (suc i) ≡ getD (k .critical) i false
-  unfolding viewOf listed critical
-  column-critical = cond-hi (at (k .critical) (suc i) false) ∙ at-next (k .critical) i false
-
-  column-lo : viewOf k .policy .lo (suc i) ≡ getD (k .lo) i 0
-  unfolding viewOf listed
-  column-lo = at-next (k .lo) i 0
-
-  column-hi : viewOf k .hi (suc i) ≡ getD (k .hi) i 0
-  unfolding viewOf
-  column-hi = at-next (k .hi) i 0
 
 -- the time of job j in scenario x
 unfoldable pub timeIn : Columns → ℕ → ℕ → ℕ
@@ -91,13 +71,13 @@ module _ (k : Columns) (x : ℕ) (ends : List ℕ) (h : Playable k x ends) where
         let s = h .testable .sound in
         let j : ℕ = suc i in
         let own = h .scenario ne in
-        let level : critical (v .policy) j ≡ getD (k .critical) i false = column-critical k i in
+        let level : critical (v .policy) j ≡ getD (k .critical) i false = critical-is k i in
         split (getD (k .critical) i false)
         (λ c.
         let kj : critical (v .policy) j ≡ true = level ∙ c in
-        let end-j : getD ends i 0 ≡ turn v j = ap (λ m. getD ends m 0) (omega arith) ∙ end-of j (column-part k i q) kj (omega arith) in
+        let end-j : getD ends i 0 ≡ turn v j = ap (λ m. getD ends m 0) (omega arith) ∙ end-of j (part-is k i q) kj (omega arith) in
         let end-x : getD ends (x - 1) 0 ≡ turn v x = end-of x (own .0) (own .1) (omega (arith, ne)) in
-        rw (c, kj, end-j, end-x, add-one, done-turn v s x j (own .0) (own .1) (column-part k i q) kj, not-leb) refl)
+        rw (c, kj, end-j, end-x, add-one, done-turn v s x j (own .0) (own .1) (part-is k i q) kj, not-leb) refl)
         (λ c. let kj : critical (v .policy) j ≡ false = level ∙ c in rw (c, kj) refl)
 
     pub times-more : (times : List ℕ) (i r : ℕ) → times ≡ upTo i (timeIn k x) 0 → i < k .n
@@ -106,4 +86,4 @@ module _ (k : Columns) (x : ℕ) (ends : List ℕ) (h : Playable k x ends) where
     unfolding timeIn hiTime
     times-more times i r e q d =
         upTo-more times i (timeIn k x) r 0 e (omega (arith, h .testable .full .n))
-        (d ∙ rw (raised-test i q, column-hi k i, column-lo k i) refl)
+        (d ∙ rw (raised-test i q, hi-is k i, lo-is k i) refl)

@@ -20,21 +20,16 @@ use borrow.Author.Tests.{lt-leb}
 use Rattle.model.specs.declared.Scenario.the-variants.{Lo}
 use Rattle.model.specs.Lists.{at, largest}
 use Rattle.model.specs.Sets.{View, critical}
-use Rattle.model.specs.Scenarios.{places, zeros, timesOf, finishIn, row, hiRow, rows, worst, margin}
+use Rattle.model.specs.Scenarios.{places, zeros, finishIn, row, hiRow, rows, worst, margin}
 use Rattle.laws.proofs.Bools.{tests, split, and-i, and-no-l}
 use Rattle.laws.proofs.Places.{at-suc}
-use Rattle.analysis.specs.declared.columns.Columns.{Columns}
-use Rattle.analysis.specs.declared.engine.Run.{Run}
-use Rattle.analysis.specs.Columns.{viewOf, listed, runOf}
-use Rattle.analysis.specs.Tests.{numbered, plays, Testable}
+use Rattle.columns.specs.declared.Columns.{Columns}
+use Rattle.columns.specs.Columns.{viewOf, listed, Testable}
+use Rattle.columns.proofs.Entries.{part-e, critical-is, deadline-is, place-is}
+use Rattle.analysis.specs.Tests.{numbered, plays}
 use Rattle.analysis.specs.Rows.{worseIn, marginsIn}
-use Rattle.analysis.proofs.Fill.{map-same, map-at, upTo, upTo-length, upTo-more, upTo-zero, mixed, mixed-set, mixed-keep, upTo-places}
-use Rattle.analysis.proofs.Search.{plays-in, plays-out, plays-zero, numbered-suc, part-is, part-e, critical-is, deadline-is}
-
--- the run of scenario x ends as its row says
-row-is : (v : View) (x : ℕ) → runOf v (timesOf v (numbered x)) .finishes ≡ row v (numbered x)
-unfolding runOf row finishIn
-row-is v x = refl
+use Rattle.laws.proofs.Fill.{map-same, map-at, upTo, upTo-length, upTo-more, upTo-zero, mixed, mixed-set, mixed-keep, upTo-places}
+use Rattle.analysis.proofs.Search.{plays-in, plays-out, plays-zero, numbered-suc}
 
 pub rowsTo : View → ℕ → List (List ℕ)
 rowsTo v zero = replicate 65 zeros
@@ -69,13 +64,9 @@ module _ (k : Columns) (h : Testable k) where
       (ap (λ l. row v Lo ∷ l)
       (mixed-set (hiRow v) (λ _. zeros) i (row v (numbered (suc i))) (omega (arith, h .full .n)) here ∙ ap (λ n. upTo n (hiRow v) zeros) (add-one i)))
 
-  pub rows-turn : (l : List (List ℕ)) (x : ℕ) (r : Run) (c : List ℕ) → l ≡ rowsTo (viewOf k) x → x ≤ k .n → plays (viewOf k) x ≡ true
-      → c ≡ timesOf (viewOf k) (numbered x) → r ≡ runOf (viewOf k) c → set l x (r .finishes) ≡ rowsTo (viewOf k) (x + 1)
-  rows-turn l x r c e q p f g =
-      let v = viewOf k in
-      ap (λ m. set m x (r .finishes)) e
-      ∙ ap (set (rowsTo v x) x) (ap (λ (y : Run). y .finishes) g ∙ ap (λ d. runOf v d .finishes) f ∙ row-is v x)
-      ∙ rows-set x q p
+  pub rows-turn : (l : List (List ℕ)) (x : ℕ) (f : List ℕ) → l ≡ rowsTo (viewOf k) x → x ≤ k .n → plays (viewOf k) x ≡ true
+      → f ≡ row (viewOf k) (numbered x) → set l x f ≡ rowsTo (viewOf k) (x + 1)
+  rows-turn l x f e q p g = ap (λ m. set m x f) e ∙ ap (set (rowsTo (viewOf k) x) x) g ∙ rows-set x q p
 
   pub rows-keep : (x : ℕ) → plays (viewOf k) x ≡ false → rowsTo (viewOf k) x ≡ rowsTo (viewOf k) (x + 1)
   unfolding rowsTo upTo mixed hiRow
@@ -96,7 +87,7 @@ module _ (k : Columns) (h : Testable k) where
       (λ j p q.
       split (leb j (k .n)) (λ t. rw t refl)
       (λ f.
-      let out : v .policy .part j ≡ false = split (v .policy .part j) (λ a. absurd (omega (tests, f, part-e k h j a))) (λ a. a) in
+      let out : v .policy .part j ≡ false = split (v .policy .part j) (λ a. absurd (omega (tests, f, part-e k j a))) (λ a. a) in
       rw f (sym (rw (and-no-l (critical (v .policy) j) out) refl))))))
 
 -- the worst finish of a job ----------------------------------------------------------------------------------------------------------
@@ -126,19 +117,13 @@ pub worstTo : View → ℕ → ℕ → ℕ
 worstTo v x j = cond (critical (v .policy) j) (largest (λ r. at r j 0) (rowsTo v x)) (finishIn v Lo j)
 
 module _ (k : Columns) (h : Testable k) where
-  -- what stands for job i + 1 in a list that the view fills
-  place-is : (f : ℕ → ℕ) (i : ℕ) → i < k .n → getD (places (viewOf k) f) i 0 ≡ f (suc i)
-  unfolding places
-  place-is f i q =
-      map-at (λ j. cond (viewOf k .policy .part j) (f j) 0) i 0 (omega (arith, h .full .n)) ∙ rw (part-is k h i q) refl
-
   -- a turn of the loop that raises the worst finishes, and its end
   pub raise-more : (w f l : List ℕ) (i y : ℕ) → l ≡ upTo i (worseIn (viewOf k) w f) 0 → i < k .n
       → y ≡ cond (getD (k .critical) i false) (max (getD w i 0) (getD f i 0)) (getD w i 0) → set l i y ≡ upTo (i + 1) (worseIn (viewOf k) w f) 0
   unfolding worseIn
   raise-more w f l i y e q z =
       upTo-more l i (worseIn (viewOf k) w f) y 0 e (omega (arith, h .full .n))
-      (z ∙ sym (rw (critical-is k h i, at-suc w i 0, at-suc f i 0) refl))
+      (z ∙ sym (rw (critical-is k i, at-suc w i 0, at-suc f i 0) refl))
 
   pub raise-all : (f : ℕ → ℕ) (l : List ℕ) (i : ℕ) → l ≡ upTo i f 0 → i ≡ k .n → l ≡ places (viewOf k) f
   unfolding places viewOf listed
@@ -151,7 +136,7 @@ module _ (k : Columns) (h : Testable k) where
       let v = viewOf k in
       map-same (λ j. cond (v .policy .part j) (f j) 0) (λ j. cond (v .policy .part j) (g j) 0)
       (λ j p q. split (v .policy .part j)
-      (λ a. rw a (subst (λ n. f n ≡ g n) (omega arith) (e (j - 1) (omega (arith, part-e k h j a)))))
+      (λ a. rw a (subst (λ n. f n ≡ g n) (omega arith) (e (j - 1) (omega (arith, part-e k j a)))))
       (λ a. rw a refl))
 
   -- the row that a run of scenario x brings is stored over nothing
@@ -165,31 +150,30 @@ module _ (k : Columns) (h : Testable k) where
       (ap (λ r. at r (suc i) 0) (rows-to-at v x (omega (arith, h .full .n))) ∙ at-zeros i (omega (arith, h .full .n)))
 
   -- before the loop over the HI scenarios, its turns, and after it
-  pub worsts-start : (r : Run) → r ≡ runOf (viewOf k) (k .lo) → r .finishes ≡ places (viewOf k) (worstTo (viewOf k) 1)
-  unfolding worstTo rowsTo row numbered timesOf
-  worsts-start r e =
+  pub worsts-start : (f : List ℕ) → f ≡ row (viewOf k) Lo → f ≡ places (viewOf k) (worstTo (viewOf k) 1)
+  unfolding worstTo rowsTo row numbered
+  worsts-start f e =
       let v = viewOf k in
-      ap (λ (y : Run). y .finishes) e ∙ ap (λ c. runOf v c .finishes) (h .los) ∙ row-is v 0
+      e
       ∙ places-same (finishIn v Lo) (worstTo v 1)
       (λ i q. split (critical (v .policy) (suc i))
       (λ a. rw a
       (sym (largest-more 0 i (omega arith) q (plays-zero k h 0 refl)
-      ∙ rw (largest-zeros i 65 (omega (arith, h .full .n))) (zero-max (at (row v Lo) (suc i) 0) ∙ at-suc (row v Lo) i 0 ∙ place-is (finishIn v Lo) i q))))
+      ∙ rw (largest-zeros i 65 (omega (arith, h .full .n))) (zero-max (at (row v Lo) (suc i) 0) ∙ at-suc (row v Lo) i 0 ∙ place-is k h (finishIn v Lo) i q))))
       (λ a. rw a refl))
 
-  pub worsts-more : (w m : List ℕ) (x : ℕ) (r : Run) (c : List ℕ) → w ≡ places (viewOf k) (worstTo (viewOf k) x) → x ≤ k .n
-      → plays (viewOf k) x ≡ true → c ≡ timesOf (viewOf k) (numbered x) → r ≡ runOf (viewOf k) c
-      → m ≡ places (viewOf k) (worseIn (viewOf k) w (r .finishes)) → m ≡ places (viewOf k) (worstTo (viewOf k) (x + 1))
+  pub worsts-more : (w m : List ℕ) (x : ℕ) (f : List ℕ) → w ≡ places (viewOf k) (worstTo (viewOf k) x) → x ≤ k .n
+      → plays (viewOf k) x ≡ true → f ≡ row (viewOf k) (numbered x)
+      → m ≡ places (viewOf k) (worseIn (viewOf k) w f) → m ≡ places (viewOf k) (worstTo (viewOf k) (x + 1))
   unfolding worseIn worstTo
-  worsts-more w m x r c e q p f g z =
+  worsts-more w m x f e q p y z =
       let v = viewOf k in
-      let y : r .finishes ≡ row v (numbered x) = ap (λ (y : Run). y .finishes) g ∙ ap (λ d. runOf v d .finishes) f ∙ row-is v x in
       z
-      ∙ places-same (worseIn v w (r .finishes)) (worstTo v (x + 1))
+      ∙ places-same (worseIn v w f) (worstTo v (x + 1))
       (λ i l.
-      let a : at w (suc i) 0 ≡ worstTo v x (suc i) = at-suc w i 0 ∙ ap (λ u. getD u i 0) e ∙ place-is (worstTo v x) i l in
+      let a : at w (suc i) 0 ≡ worstTo v x (suc i) = at-suc w i 0 ∙ ap (λ u. getD u i 0) e ∙ place-is k h (worstTo v x) i l in
       split (critical (v .policy) (suc i))
-      (λ b. rw b (ap (λ n. max n (at (r .finishes) (suc i) 0)) (a ∙ rw b refl) ∙ ap (λ u. max (largest (λ r. at r (suc i) 0) (rowsTo v x)) (at u (suc i) 0)) y ∙ sym (largest-more x i q l p)))
+      (λ b. rw b (ap (λ n. max n (at f (suc i) 0)) (a ∙ rw b refl) ∙ ap (λ u. max (largest (λ r. at r (suc i) 0) (rowsTo v x)) (at u (suc i) 0)) y ∙ sym (largest-more x i q l p)))
       (λ b. rw b (a ∙ rw b refl)))
 
   pub worsts-keep : (x : ℕ) → plays (viewOf k) x ≡ false → places (viewOf k) (worstTo (viewOf k) x) ≡ places (viewOf k) (worstTo (viewOf k) (x + 1))
@@ -212,8 +196,8 @@ module _ (k : Columns) (h : Testable k) where
       let v = viewOf k in
       upTo-more l i (margin v) m (pos 0) e (omega (arith, h .full .n))
       (f ∙ ap (λ y. pos (getD (k .deadlines) i 0) -ℤ pos (getD y i 0)) r
-      ∙ ap (λ y. pos (getD (k .deadlines) i 0) -ℤ pos y) (place-is (worst v) i q)
-      ∙ ap (λ y. pos y -ℤ pos (worst v (suc i))) (sym (deadline-is k h i)))
+      ∙ ap (λ y. pos (getD (k .deadlines) i 0) -ℤ pos y) (place-is k h (worst v) i q)
+      ∙ ap (λ y. pos y -ℤ pos (worst v (suc i))) (sym (deadline-is k i)))
 
   pub margins-all : (l : List ℤ) (i : ℕ) → l ≡ upTo i (margin (viewOf k)) (pos 0) → i ≡ k .n → l ≡ marginsIn (viewOf k)
   unfolding marginsIn viewOf listed

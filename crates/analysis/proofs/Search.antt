@@ -14,6 +14,7 @@ use native.Mathlib.Omega.{arith}
 use lib.Dec.{eqb, leb}
 use lib.ListN.{length, getD}
 use borrow.Author.Tests.{eq-eqb, ne-eqb, eqb-true, eqb-false, le-leb}
+use Rattle.model.specs.declared.Ran.{Ran}
 use Rattle.model.specs.declared.Scenario.the-variants.{Lo, Hi}
 use Rattle.model.specs.declared.Switch.{Switch}
 use Rattle.model.specs.declared.Switch.the-variants.{Never, At}
@@ -28,16 +29,14 @@ use Rattle.model.specs.Scenarios.{places, loTimes, hiJobs, scenarios, timesOf, 
 use Rattle.laws.proofs.Bools.{tests, split, and-i, and-l, and-r, and-no-r, or-l, or-cases, or-no-l, or-no-r}
 use Rattle.laws.proofs.Lists.{first-zero}
 use Rattle.laws.proofs.Sums.{at-numbers}
-use Rattle.laws.proofs.Ends.{Times}
-use Rattle.laws.proofs.Turns.{lo-range, hi-range}
 use Rattle.laws.proofs.Ascending.{members-ascending, first-is}
-use Rattle.laws.proofs.Places.{members-e, members-i, members-nonzero, at-suc, cond-hi}
-use Rattle.analysis.specs.declared.columns.Columns.{Columns}
-use Rattle.analysis.specs.declared.engine.Run.{Run}
-use Rattle.analysis.specs.Columns.{viewOf, listed, runOf, Runnable}
-use Rattle.analysis.proofs.Fill.{map-length}
+use Rattle.laws.proofs.Places.{members-e, members-i, members-nonzero, at-suc}
+use Rattle.columns.specs.declared.Columns.{Columns}
+use Rattle.columns.specs.Columns.{viewOf, Testable}
+use Rattle.columns.proofs.Entries.{part-is, part-e, critical-is, deadline-is}
+use Rattle.runs.specs.Engine.{runOf}
 use Rattle.measures.specs.Measures.{missedBy}
-use Rattle.analysis.specs.Tests.{numbered, plays, Testable, Playable}
+use Rattle.analysis.specs.Tests.{numbered, plays}
 
 -- the HI jobs from number k on, of 64
 hiFrom : View → ℕ → ℕ → List ℕ
@@ -142,22 +141,6 @@ abbrev pub Passed : Columns → List ℕ → ℕ → Type 0
 Passed k c job = (i : ℕ) → i < job → missed (viewOf k) c (suc i) ≡ false
 
 module _ (k : Columns) (h : Testable k) where
-  pub part-is : (i : ℕ) → i < k .n → viewOf k .policy .part (suc i) ≡ true
-  unfolding viewOf listed
-  part-is i q = and-i (le-leb 1 (suc i) (omega arith)) (le-leb (suc i) (k .n) (omega arith))
-
-  pub part-e : (j : ℕ) → viewOf k .policy .part j ≡ true → (1 ≤ j) × (j ≤ k .n)
-  unfolding viewOf listed
-  part-e j a = (omega (tests, and-l (leb 1 j) (leb j (k .n)) a), omega (tests, and-r (leb 1 j) (leb j (k .n)) a))
-
-  pub critical-is : (i : ℕ) → critical (viewOf k .policy) (suc i) ≡ getD (k .critical) i false
-  unfolding viewOf listed critical
-  critical-is i = cond-hi (at (k .critical) (suc i) false) ∙ at-suc (k .critical) i false
-
-  pub deadline-is : (i : ℕ) → viewOf k .deadline (suc i) ≡ getD (k .deadlines) i 0
-  unfolding viewOf
-  deadline-is i = at-suc (k .deadlines) i 0
-
   pub finish-is : (c : List ℕ) (i : ℕ) → i < k .n → getD (runOf (viewOf k) c .finishes) i 0 ≡ mark (outcomeIn (viewOf k) c (suc i))
   unfolding runOf places
   finish-is c i q =
@@ -165,7 +148,7 @@ module _ (k : Columns) (h : Testable k) where
       let f : ℕ → ℕ = λ j. cond (v .policy .part j) (mark (outcomeIn v c j)) 0 in
       sym (at-suc (runOf v c .finishes) i 0)
       ∙ at-numbers f 64 (suc i) 0 (omega arith) (omega (arith, h .full .n))
-      ∙ rw (part-is i q) refl
+      ∙ rw (part-is k i q) refl
 
   pub missed-is : (c : List ℕ) (i : ℕ) → i < k .n
       → missedBy (getD (k .critical) i false) (getD (k .deadlines) i 0) (getD (runOf (viewOf k) c .finishes) i 0) (runOf (viewOf k) c .switch)
@@ -173,8 +156,8 @@ module _ (k : Columns) (h : Testable k) where
   unfolding runOf
   missed-is c i q =
       let v = viewOf k in
-      ap (λ b. missedBy b (getD (k .deadlines) i 0) (getD (runOf v c .finishes) i 0) (switchIn v c)) (sym (critical-is i))
-      ∙ ap (λ d. missedBy (critical (v .policy) (suc i)) d (getD (runOf v c .finishes) i 0) (switchIn v c)) (sym (deadline-is i))
+      ap (λ b. missedBy b (getD (k .deadlines) i 0) (getD (runOf v c .finishes) i 0) (switchIn v c)) (sym (critical-is k i))
+      ∙ ap (λ d. missedBy (critical (v .policy) (suc i)) d (getD (runOf v c .finishes) i 0) (switchIn v c)) (sym (deadline-is k i))
       ∙ ap (λ f. missedBy (critical (v .policy) (suc i)) (v .deadline (suc i)) f (switchIn v c)) (finish-is c i q)
       ∙ missed-by v c (suc i) (switchIn v c) refl
 
@@ -191,22 +174,22 @@ module _ (k : Columns) (h : Testable k) where
   unfolding lateIn
   late-none c p =
       first-zero (missed (viewOf k) c) (members (viewOf k .policy))
-      (λ j m. let r = part-e j (members-e (viewOf k .policy) j m) in of-suc c (k .n) j p (r .0) (r .1))
+      (λ j m. let r = part-e k j (members-e (viewOf k .policy) j m) in of-suc c (k .n) j p (r .0) (r .1))
 
   pub late-is : (c : List ℕ) (job : ℕ) → job < k .n → Passed k c job → missed (viewOf k) c (suc job) ≡ true → lateIn (viewOf k) c ≡ suc job
   unfolding lateIn
   late-is c job q p m =
       let v = viewOf k in
       first-is (missed v c) (members (v .policy)) (members-ascending (v .policy)) (members-nonzero (v .policy)) (suc job)
-      (members-i (v .policy) (suc job) (h .sound .ordered .room) (part-is job q)) m
-      (λ i n l. let r = part-e i (members-e (v .policy) i n) in of-suc c job i p (r .0) (omega arith))
+      (members-i (v .policy) (suc job) (h .sound .ordered .room) (part-is k job q)) m
+      (λ i n l. let r = part-e k i (members-e (v .policy) i n) in of-suc c job i p (r .0) (omega arith))
 
   -- what the code asks of a number: whether it is a scenario
   pub plays-in : (x : ℕ) → x ≤ k .n → plays (viewOf k) x ≡ true → Plays (viewOf k) x
   unfolding plays
   plays-in zero q e = inl refl
   plays-in (suc i) q e =
-      inr (part-is i (omega arith), ⊎-elim (λ z. absurd (eqb-false (suc i) 0 (ne-eqb (suc i) 0 (omega arith)) (eqb-true (suc i) 0 z))) (λ z. z) (or-cases (eqb (suc i) 0) (critical (viewOf k .policy) (suc i)) e))
+      inr (part-is k i (omega arith), ⊎-elim (λ z. absurd (eqb-false (suc i) 0 (ne-eqb (suc i) 0 (omega arith)) (eqb-true (suc i) 0 z))) (λ z. z) (or-cases (eqb (suc i) 0) (critical (viewOf k .policy) (suc i)) e))
 
   pub plays-out : (x : ℕ) → plays (viewOf k) x ≡ false → (1 ≤ x) × ((viewOf k .policy .part x && critical (viewOf k .policy) x) ≡ false)
   unfolding plays
@@ -223,58 +206,13 @@ module _ (k : Columns) (h : Testable k) where
   unfolding plays
   plays-is x q =
       ap (λ b. b || critical (viewOf k .policy) x) (ne-eqb x 0 (omega arith))
-      ∙ subst (λ n. critical (viewOf k .policy) n ≡ getD (k .critical) (x - 1) false) (omega arith) (critical-is (x - 1))
-
-  -- what the calls of a scenario ask ---------------------------------------------------------------------------------------------------
-
-  pub lo-runs : Runnable k (k .lo)
-  lo-runs =
-      record {
-        full = h .full;
-        times = h .full .lo;
-        sound = h .sound;
-        range = subst (Times (viewOf k)) (sym (h .los)) (lo-range (viewOf k) (h .sound));
-      }
-
-  -- the run of scenario 0 over the columns ends as the model's does
-  lo-ends : (r : Run) → r ≡ runOf (viewOf k) (k .lo) → r .finishes ≡ runOf (viewOf k) (loTimes (viewOf k)) .finishes
-  lo-ends r e = ap (λ (x : Run). x .finishes) e ∙ ap (λ c. runOf (viewOf k) c .finishes) (h .los)
-
-  pub can-play : (x : ℕ) → x ≤ k .n → plays (viewOf k) x ≡ true → (r : Run) → r ≡ runOf (viewOf k) (k .lo) → Playable k x (r .finishes)
-  can-play x q p r e =
-      record {
-        testable = h;
-        scenario = λ nz. ⊎-elim (λ z. absurd (nz z)) (λ y. y) (plays-in x q p);
-        ends-are = lo-ends r e;
-      }
-
-  scenario-range : (x : ℕ) → Plays (viewOf k) x → Times (viewOf k) (timesOf (viewOf k) (numbered x))
-  unfolding timesOf numbered
-  scenario-range zero s = lo-range (viewOf k) (h .sound)
-  scenario-range (suc i) s =
-      ⊎-elim (λ z. absurd (omega (arith, z)))
-      (λ (a, b). subst (λ y. Times (viewOf k) (timesOf (viewOf k) y)) (sym (numbered-suc i)) (hi-range (viewOf k) (h .sound) (suc i) a b))
-      s
-
-  times-length : (x : ℕ) → length (timesOf (viewOf k) (numbered x)) ≡ 64
-  unfolding timesOf numbered places loTimes
-  times-length zero = map-length _
-  times-length (suc i) = ap (λ y. length (timesOf (viewOf k) y)) (numbered-suc i) ∙ map-length _
-
-  pub can-run : (x : ℕ) (c : List ℕ) → x ≤ k .n → plays (viewOf k) x ≡ true → c ≡ timesOf (viewOf k) (numbered x) → Runnable k c
-  can-run x c q p e =
-      record {
-        full = h .full;
-        times = ap length e ∙ times-length x;
-        sound = h .sound;
-        range = subst (Times (viewOf k)) (sym e) (scenario-range x (plays-in x q p));
-      }
+      ∙ subst (λ n. critical (viewOf k .policy) n ≡ getD (k .critical) (x - 1) false) (omega arith) (critical-is k (x - 1))
 
   -- what the code finds of a job of a scenario's run
-  pub missed-turn : (r : Run) (c : List ℕ) (i : ℕ) (b x : Bool) → i < k .n → r ≡ runOf (viewOf k) c
+  pub missed-turn : (r : Ran) (c : List ℕ) (i : ℕ) (b x : Bool) → i < k .n → r ≡ runOf (viewOf k) c
       → b ≡ missedBy (getD (k .critical) i false) (getD (k .deadlines) i 0) (getD (r .finishes) i 0) (r .switch) → b ≡ x
       → missed (viewOf k) c (suc i) ≡ x
   missed-turn r c i b x q e f g =
       sym (missed-is c i q)
-      ∙ ap (λ (y : Run). missedBy (getD (k .critical) i false) (getD (k .deadlines) i 0) (getD (y .finishes) i 0) (y .switch)) (sym e)
+      ∙ ap (λ (y : Ran). missedBy (getD (k .critical) i false) (getD (k .deadlines) i 0) (getD (y .finishes) i 0) (y .switch)) (sym e)
       ∙ sym f ∙ g

@@ -1,8 +1,7 @@
 -- The scenarios by number, and what the search over them finds.
 --   numbered x          == scenario x: 0 is LO, and j is HI of job j
 --   plays v x           == x is a scenario of the set
---   Testable k          == full columns of a sound set, with 0 beyond the LO budgets
---   Playable k x ends   == x is a scenario of it, and ends are the finishes of scenario 0
+--   Playable k x ends   == x is a scenario of the set with columns k, and ends are the finishes of scenario 0
 --   unfitIn x job f c   == the unfit answer: job + 1, its finish f, in scenario x with times c
 --   found v             == the verdict found, with the times beside it
 use Prim.Native.Nat.{ℕ, _+_}
@@ -16,10 +15,9 @@ use Rattle.model.specs.declared.Judged.{Judged}
 use Rattle.model.specs.declared.Judgement.the-variants.{Found}
 use Rattle.model.specs.declared.Verdict.the-variants.{Unfit}
 use Rattle.model.specs.Sets.{View, critical}
-use Rattle.model.specs.Scenarios.{loTimes, verdict, timesBeside}
-use Rattle.laws.proofs.Sound.{Sound}
-use Rattle.analysis.specs.declared.columns.Columns.{Columns}
-use Rattle.analysis.specs.Columns.{viewOf, Full, runOf}
+use Rattle.model.specs.Scenarios.{row, verdict, timesBeside}
+use Rattle.columns.specs.declared.Columns.{Columns}
+use Rattle.columns.specs.Columns.{viewOf, Testable}
 
 unfoldable pub numbered : ℕ → Scenario
 numbered x = cond (eqb x 0) Lo (Hi x)
@@ -28,15 +26,10 @@ numbered x = cond (eqb x 0) Lo (Hi x)
 unfoldable pub plays : View → ℕ → Bool
 plays v x = eqb x 0 || critical (v .policy) x
 
-pub record Testable (k : Columns) : Type 0 where
-  pub full : Full k
-  pub sound : Sound (viewOf k)
-  pub los : k .lo ≡ loTimes (viewOf k)
-
 pub record Playable (k : Columns) (x : ℕ) (ends : List ℕ) : Type 0 where
   pub testable : Testable k
   pub scenario : (x ≡ 0 → ⊥) → (viewOf k .policy .part x ≡ true) × (critical (viewOf k .policy) x ≡ true)
-  pub ends-are : ends ≡ runOf (viewOf k) (loTimes (viewOf k)) .finishes
+  pub ends-are : ends ≡ row (viewOf k) Lo
 
 -- job + 1 ends at f, late, in scenario x
 unfoldable pub unfitIn : ℕ → ℕ → ℕ → List ℕ → Judged

@@ -1,17 +1,16 @@
 // Finish rows, worst finishes and margins.
 ghost use mathlib.Core.Path.{_≡_};
 ghost use lib.ListN.{replicate};
-ghost use Rattle.model.specs.Sets.{span as spanOf};
 ghost use Rattle.model.specs.Scenarios.{places, zeros, rows as rowsIn, worst};
-ghost use Rattle.analysis.specs.Columns.{viewOf};
-ghost use Rattle.analysis.specs.Tests.{Testable};
+ghost use Rattle.columns.specs.Columns.{viewOf, Testable, Prepared};
 ghost use Rattle.analysis.specs.Rows.{worseIn, marginsIn};
-use crate::columns::Columns;
-use crate::engine::run_to;
+use crate::scenario::ends_in;
+use crate::scenario::lo_ends;
 use crate::scenario::plays_in;
-use crate::scenario::times_in;
+use columns::Columns;
 use measures::margin_of;
 use measures::worse;
+use model::Set;
 
 // Rows that hold nothing.
 pub fn zero_rows() -> [[u16; 64]; 65]
@@ -21,21 +20,17 @@ pub fn zero_rows() -> [[u16; 64]; 65]
 }
 
 // The finishes of every scenario: row 0 is LO, and row j that of HI job j.
-pub fn rows_of(k: Columns, span: u16) -> [[u16; 64]; 65]
-    requires { ⌜ Testable k × (span ≡ spanOf (viewOf k)) ⌝ }
+pub fn rows_of(s: Set, k: Columns) -> [[u16; 64]; 65]
+    requires { ⌜ Prepared s k ⌝ }
     ensures { λ r. ⌜ r ≡ rowsIn (viewOf k) ⌝ }
 {
     let n = k.n;
-    let lo = k.lo;
-    let first = run_to(k, lo, span);
-    let ends = first.finishes;
+    let ends = lo_ends(s, k);
     let mut rows = zero_rows();
     let mut x: usize = 0;
     while x <= n {
         if plays_in(k, x) {
-            let times = times_in(k, x, ends);
-            let r = run_to(k, times, span);
-            let finishes = r.finishes;
+            let finishes = ends_in(s, k, x, ends);
             rows[x] = finishes;
         }
         x += 1;
@@ -59,21 +54,17 @@ fn raise(k: Columns, worsts: [u16; 64], finishes: [u16; 64]) -> [u16; 64]
 }
 
 // Each job's worst finish: the run of scenario LO, raised by that of each HI scenario.
-pub fn worsts_of(k: Columns, span: u16) -> [u16; 64]
-    requires { ⌜ Testable k × (span ≡ spanOf (viewOf k)) ⌝ }
+pub fn worsts_of(s: Set, k: Columns) -> [u16; 64]
+    requires { ⌜ Prepared s k ⌝ }
     ensures { λ r. ⌜ r ≡ places (viewOf k) (worst (viewOf k)) ⌝ }
 {
     let n = k.n;
-    let lo = k.lo;
-    let first = run_to(k, lo, span);
-    let ends = first.finishes;
+    let ends = lo_ends(s, k);
     let mut worsts = ends;
     let mut x: usize = 1;
     while x <= n {
         if plays_in(k, x) {
-            let times = times_in(k, x, ends);
-            let r = run_to(k, times, span);
-            let finishes = r.finishes;
+            let finishes = ends_in(s, k, x, ends);
             let raised = raise(k, worsts, finishes);
             worsts = raised;
         }

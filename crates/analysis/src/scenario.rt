@@ -2,19 +2,19 @@
 ghost use mathlib.Core.Path.{_≡_};
 ghost use mathlib.Core.Bool.{cond, _&&_, _||_};
 ghost use Prim.Native.Nat.{_≤_, _<_};
-ghost use Rattle.model.specs.Sets.{span as spanOf};
-ghost use Rattle.model.specs.Scenarios.{timesOf};
-ghost use Rattle.analysis.specs.Columns.{viewOf};
-ghost use Rattle.analysis.specs.Tests.{numbered, plays, Testable, Playable, unfitIn, found};
-use crate::columns::Columns;
-use crate::engine::Run;
-use crate::engine::run_to;
+ghost use Rattle.model.specs.declared.Scenario.the-variants.{Lo as LoOf};
+ghost use Rattle.model.specs.Scenarios.{timesOf, row};
+ghost use Rattle.columns.specs.Columns.{viewOf, Testable, Prepared};
+ghost use Rattle.analysis.specs.Tests.{numbered, plays, Playable, unfitIn, found};
+use columns::Columns;
 use measures::misses;
 use model::Judged;
 use model::Judgement;
 use model::Miss;
 use model::Scenario;
+use model::Set;
 use model::Verdict;
+use runs::execute;
 
 // Scenario 0 is LO, and scenario j HI of job j.
 fn scenario_of(x: usize) -> Scenario
@@ -76,6 +76,25 @@ pub fn times_in(k: Columns, x: usize, ends: [u16; 64]) -> [u16; 64]
     times
 }
 
+// The finishes of scenario 0.
+pub fn lo_ends(s: Set, k: Columns) -> [u16; 64]
+    requires { ⌜ Prepared s k ⌝ }
+    ensures { λ r. ⌜ r ≡ row (viewOf k) LoOf ⌝ }
+{
+    let lo = k.lo;
+    let r = execute(s, lo);
+    r.finishes
+}
+
+// The finishes of scenario x, where `ends` are those of scenario 0.
+pub fn ends_in(s: Set, k: Columns, x: usize, ends: [u16; 64]) -> [u16; 64]
+    requires { ⌜ Prepared s k × Playable k x ends ⌝ }
+    ensures { λ r. ⌜ r ≡ row (viewOf k) (numbered x) ⌝ }
+{
+    let r = execute(s, times_in(k, x, ends));
+    r.finishes
+}
+
 // The answer where job + 1 ends at the finish given, late, in scenario x.
 fn unfit_in(x: usize, job: usize, finish: u16, times: [u16; 64]) -> Judged
     requires { ⌜ (x ≤ 64) × (job < 64) ⌝ }
@@ -94,14 +113,12 @@ fn unfit_in(x: usize, job: usize, finish: u16, times: [u16; 64]) -> Judged
 }
 
 // The verdict, with the times beside it. The search leaves the loop over the jobs and the loop over the scenarios together.
-pub fn search(k: Columns, span: u16) -> Judged
-    requires { ⌜ Testable k × (span ≡ spanOf (viewOf k)) ⌝ }
+pub fn search(s: Set, k: Columns) -> Judged
+    requires { ⌜ Prepared s k ⌝ }
     ensures { λ r. ⌜ r ≡ found (viewOf k) ⌝ }
 {
     let n = k.n;
-    let lo = k.lo;
-    let first = run_to(k, lo, span);
-    let ends = first.finishes;
+    let ends = lo_ends(s, k);
     let mut x: usize = 0;
     let mut job: usize = 0;
     let mut finish: u16 = 0;
@@ -109,7 +126,7 @@ pub fn search(k: Columns, span: u16) -> Judged
     'search: while x <= n {
         if plays_in(k, x) {
             times = times_in(k, x, ends);
-            let r = run_to(k, times, span);
+            let r = execute(s, times);
             job = 0;
             while job < n {
                 let switch = r.switch;

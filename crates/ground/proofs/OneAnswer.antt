@@ -15,13 +15,14 @@ use Rattle.model.specs.declared.Switch.{Switch}
 use Rattle.model.specs.declared.Refusal.{Refusal}
 use Rattle.model.specs.declared.Ran.{Ran}
 use Rattle.model.specs.declared.Judged.{Judged}
-use Rattle.ground.specs.Promises.{RefusalOf, SpanOf, Judges, FinishRows, RowsRefusal, WorstFinishes, Margins, Executes}
-use Rattle.ground.specs.Promises.{Picks, Parts, PartRefusal, MakesTables, InRange, Misses, Worse, MarginOf}
+use Rattle.columns.specs.declared.Columns.{Columns}
+use Rattle.ground.specs.Promises.{RefusalOf, SpanOf, ColumnsOf, Judges, FinishRows, RowsRefusal, WorstFinishes, Margins, Executes}
+use Rattle.ground.specs.Promises.{Picks, Parts, PartRefusal, MakesTables, InRange, Outruns, IsEnabled, Misses, Worse, MarginOf}
 
 pub one : {A : Type 0} {x y z : A} → x ≡ z → y ≡ z → x ≡ y
 one p q = p ∙ sym q
 
--- checks ------------------------------------------------------------------------------------------------------------------------------
+-- checks and columns ------------------------------------------------------------------------------------------------------------------
 
 -- The refusal of a set by checks 2 to 7: its number, and its place.
 pub refusal-of-one : (s : Set) (x y : Refusal) → RefusalOf s x → RefusalOf s y → x ≡ y
@@ -31,7 +32,11 @@ refusal-of-one s x y p q = one p q
 pub span-of-one : (s : Set) (x y : ℕ) → SpanOf s x → SpanOf s y → x ≡ y
 span-of-one s x y p q = one p q
 
--- analysis, picks and parts ----------------------------------------------------------------------------------------------------------
+-- The columns of a set, which the runs and the analysis look at.
+pub columns-of-one : (s : Set) (x y : Columns) → ColumnsOf s x → ColumnsOf s y → x ≡ y
+columns-of-one s x y p q = one p q
+
+-- analysis, runs, picks and parts ----------------------------------------------------------------------------------------------------
 
 -- Who is picked, from what the three lent slices hold: a job, or idle.
 pub pick-one : (o a : List ℕ) (d : List Bool) (t : ℕ) (x y : Pick) → Picks o a d t x → Picks o a d t y → x ≡ y
@@ -76,10 +81,18 @@ part-refusal-one l t x y p q = one (p .2) (q .2)
 
 -- measures ----------------------------------------------------------------------------------------------------------------------------
 
--- Whether a time lies in its range, and whether a finish misses a deadline.
+-- Whether a time lies in its range.
 pub in-range-one : (h : Bool) (lo hi c : ℕ) (x y : Bool) → InRange h lo hi c x → InRange h lo hi c y → x ≡ y
 in-range-one h lo hi c x y p q = one p q
 
+-- Rule 1 of one job, and rules (a), (b), (c).
+pub outruns-one : (h : Bool) (n lo : ℕ) (d x y : Bool) → Outruns h n lo d x → Outruns h n lo d y → x ≡ y
+outruns-one h n lo d x y p q = one p q
+
+pub is-enabled-one : (h l lo hi : ℕ) (r x y : Bool) → IsEnabled h l lo hi r x → IsEnabled h l lo hi r y → x ≡ y
+is-enabled-one h l lo hi r x y p q = one p q
+
+-- Whether a finish misses a deadline.
 pub misses-one : (h : Bool) (d f : ℕ) (w : Switch) (x y : Bool) → Misses h d f w x → Misses h d f w y → x ≡ y
 misses-one h d f w x y p q = one p q
 

@@ -1,11 +1,11 @@
 -- What the public functions promise, as relations between what a call is given and what it answers. Each is the function's own promise, as the
 -- kit reads it off the contract (`Reads.Post`), and no copy of it: of the lifetimes, the arguments, the answer, and the arguments at exit.
 --   RefusalOf s x     == `refusal_of` may answer x for the set s, by its promise;  so for the others:
---   SpanOf, Judges, FinishRows, RowsRefusal, WorstFinishes, Margins
+--   SpanOf, ColumnsOf, Judges, FinishRows, RowsRefusal, WorstFinishes, Margins
 --   Executes s c x    == `execute`, with the running times c
 --   Picks o a d t x   == `pick`, lent an order o, arrivals a and who is done d, at the instant t
 --   Parts l t x       == `part` of the table l from the instant t: the slice that it answers holds x;  PartRefusal: its companion
---   InRange, Misses, Worse, MarginOf   == those of the measures, from the numbers that each is given
+--   InRange, Outruns, IsEnabled, Misses, Worse, MarginOf   == those of the measures, from the numbers that each is given
 --   MakesTables s lo hi x loAfter hiAfter   == `make_tables`, lent room that holds lo and hi: it answers x, and the room holds loAfter and hiAfter
 use Prim.Native.Nat.{ℕ}
 use mathlib.Core.Bool.{Bool}
@@ -20,28 +20,35 @@ use Rattle.model.specs.declared.Switch.{Switch}
 use Rattle.model.specs.declared.Refusal.{Refusal}
 use Rattle.model.specs.declared.Ran.{Ran}
 use Rattle.model.specs.declared.Judged.{Judged}
+use Rattle.columns.specs.declared.Columns.{Columns}
 use Rattle.checks.proofs.refusal_of.Reads.{Post as refusal-of}
 use Rattle.checks.proofs.span_of.Reads.{Post as span-of}
 use Rattle.measures.proofs.in_range.Reads.{Post as in-range}
+use Rattle.measures.proofs.outruns.Reads.{Post as outruns}
+use Rattle.measures.proofs.is_enabled.Reads.{Post as is-enabled}
 use Rattle.measures.proofs.misses.Reads.{Post as misses}
 use Rattle.measures.proofs.worse.Reads.{Post as worse}
 use Rattle.measures.proofs.margin_of.Reads.{Post as margin-of}
+use Rattle.columns.proofs.columns_of.Reads.{Post as columns-of}
 use Rattle.analysis.proofs.judge.Reads.{Post as judge}
 use Rattle.analysis.proofs.finish_rows.Reads.{Post as finish-rows}
 use Rattle.analysis.proofs.rows_refusal.Reads.{Post as rows-refusal}
 use Rattle.analysis.proofs.worst_finishes.Reads.{Post as worst-finishes}
 use Rattle.analysis.proofs.margins.Reads.{Post as margins}
-use Rattle.analysis.proofs.execute.Reads.{Post as execute}
+use Rattle.runs.proofs.execute.Reads.{Post as execute}
 use Rattle.picks.proofs.pick.Reads.{Post as pick}
 use Rattle.parts.proofs.part.Reads.{Post as part}
 use Rattle.parts.proofs.part_refusal.Reads.{Post as part-refusal}
-use Rattle.analysis.proofs.make_tables.Reads.{Post as make-tables}
+use Rattle.runs.proofs.make_tables.Reads.{Post as make-tables}
 
 abbrev pub RefusalOf : Set → Refusal → Type 0
 RefusalOf s x = refusal-of tt (s, tt) x (s, tt)
 
 abbrev pub SpanOf : Set → ℕ → Type 0
 SpanOf s x = span-of tt (s, tt) x (s, tt)
+
+abbrev pub ColumnsOf : Set → Columns → Type 0
+ColumnsOf s x = columns-of tt (s, tt) x (s, tt)
 
 abbrev pub Judges : Set → Judged → Type 0
 Judges s x = judge tt (s, tt) x (s, tt)
@@ -63,6 +70,12 @@ Executes s c x = execute tt (s, (c, tt)) x (s, (c, tt))
 
 abbrev pub InRange : Bool → ℕ → ℕ → ℕ → Bool → Type 0
 InRange h lo hi c x = in-range tt (h, (lo, (hi, (c, tt)))) x (h, (lo, (hi, (c, tt))))
+
+abbrev pub Outruns : Bool → ℕ → ℕ → Bool → Bool → Type 0
+Outruns h n lo d x = outruns tt (h, (n, (lo, (d, tt)))) x (h, (n, (lo, (d, tt))))
+
+abbrev pub IsEnabled : ℕ → ℕ → ℕ → ℕ → Bool → Bool → Type 0
+IsEnabled h l lo hi r x = is-enabled tt (h, (l, (lo, (hi, (r, tt))))) x (h, (l, (lo, (hi, (r, tt)))))
 
 abbrev pub Misses : Bool → ℕ → ℕ → Switch → Bool → Type 0
 Misses h d f w x = misses tt (h, (d, (f, (w, tt)))) x (h, (d, (f, (w, tt))))

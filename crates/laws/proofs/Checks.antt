@@ -5,7 +5,7 @@
 --   counts-right            == what check 2 says: N from 1 to 64, and the orders' counts
 --   view-placed             == the jobs of a set are places, where N is at most 64
 --   passes-sound            == a set that passes checks 2 to 7 is sound
---   check-run               == a run is what gives each job a time of its range
+--   in-range, check-run     == a run is what gives each job a time of its range
 -- Assumes nothing.
 use Prim.Native.Nat.{ℕ, suc, _≤_, _<_}
 use mathlib.Core.Path.{_≡_, refl, sym, _∙_, ap, subst}
@@ -236,7 +236,7 @@ passes-sound s h =
 
 -- a run ------------------------------------------------------------------------------------------------------------------------------
 
-in-range : (v : View) (c : List ℕ) (j : ℕ) → (inRange v c j ≡ true) ↔ ((1 ≤ time c j) × (time c j ≤ limit v j))
+pub in-range : (v : View) (c : List ℕ) (j : ℕ) → (inRange v c j ≡ true) ↔ ((1 ≤ time c j) × (time c j ≤ limit v j))
 unfolding inRange
 in-range v c j = (
   λ h. (

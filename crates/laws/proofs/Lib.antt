@@ -7,6 +7,7 @@ pub mod Differences
 pub mod Pigeonhole
 pub mod Members
 pub mod Places
+pub mod Fill
 pub mod Runs
 pub mod Finishes
 pub mod Sound
@@ -14,3 +15,4 @@ pub mod Checks
 pub mod Ends
 pub mod Turns
 pub mod Outcomes
+pub mod Answers

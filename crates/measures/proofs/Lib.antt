@@ -1,2 +1,3 @@
 -- Laws that the proofs of the measures cite.
 pub mod Signed
+pub mod Enabled

@@ -1,2 +1,2 @@
--- What a miss is promised by.
+-- What a miss and an enabled job are promised by.
 pub mod Measures

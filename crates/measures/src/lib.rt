@@ -1,10 +1,11 @@
-// The measures that runs are held to: a running time by its range, a finish by its deadline and by other finishes.
+// The tests of one job that runs, scenarios and tables go by: its running time against its range, its slots against its budgets, its finish against
+// its deadline and against other finishes.
 ghost use mathlib.Core.Path.{_≡_};
-ghost use mathlib.Core.Bool.{cond, _&&_};
+ghost use mathlib.Core.Bool.{cond, not, _&&_};
 ghost use Prim.Native.Nat.{max};
-ghost use lib.Dec.{leb};
+ghost use lib.Dec.{eqb, leb};
 ghost use lib.IntN.{pos, _-ℤ_};
-ghost use Rattle.measures.specs.Measures.{missedBy};
+ghost use Rattle.measures.specs.Measures.{missedBy, enabledBy};
 use model::Switch;
 
 // Whether a time lies in its range: 1 to the LO budget for a LO job, 1 to the HI budget for a HI job.
@@ -15,6 +16,36 @@ pub fn in_range(critical: bool, lo: u16, hi: u16, time: u16) -> bool
         return false;
     }
     if critical { time <= hi } else { time <= lo }
+}
+
+// Rule 1 of one job: whether it is a HI job that has had exactly its LO budget and is not done.
+pub fn outruns(critical: bool, had: u16, lo: u16, done: bool) -> bool
+    ensures { λ r. ⌜ r ≡ (critical && (eqb had lo && not done)) ⌝ }
+{
+    if !critical {
+        return false;
+    }
+    if had != lo {
+        return false;
+    }
+    !done
+}
+
+// Whether a HI job is enabled that has had h slots in the HI table and l in the LO table, where its budgets are lo and hi, and the LO
+// table runs it or not.
+pub fn is_enabled(h: u16, l: u16, lo: u16, hi: u16, runs: bool) -> bool
+    ensures { λ r. ⌜ r ≡ enabledBy h l lo hi runs ⌝ }
+{
+    if hi <= h {
+        return false;
+    }
+    if l == lo {
+        return true;
+    }
+    if h < l {
+        return true;
+    }
+    runs
 }
 
 // Whether a finish misses a deadline that the run requires.

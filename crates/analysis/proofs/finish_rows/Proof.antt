@@ -1,8 +1,10 @@
 -- `finish_rows` meets its contract: rows of nothing where the set is refused, or the rows of its scenarios.
 -- Assumes nothing.
 use borrow.Author.Needs.{needs}
-use Rattle.analysis.proofs.AnswerLaws.{good-of, refused-rows, Prepared, prepared, found-rows}
-use Rattle.analysis.proofs.Views.{good-counts}
+use Rattle.laws.proofs.Answers.{good-of}
+use Rattle.analysis.proofs.AnswerLaws.{refused-rows, found-rows}
+use Rattle.columns.specs.Columns.{Prepared}
+use Rattle.columns.proofs.Views.{prepared}
 use Rattle.analysis.proofs.finish_rows.Statement.{statement}
 use Rattle.analysis.proofs.finish_rows.Tie as tie
 
@@ -16,22 +18,19 @@ returns : tie.Need-returns
 returns c = refused-rows _ _ (c .before .before .before .refusal-of .ensures) (c .before .if1 .taken) _ (c .zero-rows .ensures)
 
 columns-of-requires : tie.Need-columns-of-requires
-columns-of-requires c κs = good-counts _ (good-of _ _ (c .before .before .refusal-of .ensures) (c .if1 .left)) .0
+columns-of-requires c κs = search needs
 
-span-in-requires : tie.Need-span-in-requires
-span-in-requires c κs = good-of _ _ (c .before .before .before .refusal-of .ensures) (c .before .if1 .left)
-
-ready : (c : tie.After-span-in) → Prepared (c .before .before .before .before .before .args .s) (c .before .columns-of .result) (c .span-in .result)
+ready : (c : tie.After-columns-of) → Prepared (c .before .before .before .before .args .s) (c .columns-of .result)
 ready c =
-    prepared _ _ _ (good-of _ _ (c .before .before .before .before .refusal-of .ensures) (c .before .before .if1 .left)) (search needs) (search needs)
-    (c .before .columns-of .ensures) (c .span-in .ensures)
+    prepared _ _ (good-of _ _ (c .before .before .before .refusal-of .ensures) (c .before .if1 .left)) (search needs) (search needs)
+    (c .columns-of .ensures)
 
 rows-of-requires : tie.Need-rows-of-requires
-rows-of-requires c κs = (ready c .testable, ready c .end)
+rows-of-requires c κs = ready c
 
 returns-2 : tie.Need-returns-2
-returns-2 c = found-rows _ _ _ (ready (c .before)) _ (c .rows-of .ensures)
+returns-2 c = found-rows _ _ (ready (c .before)) _ (c .rows-of .ensures)
 
 pub finish-rows-spec : {M : Type 1} → statement M
 finish-rows-spec =
-    tie.close (tie.spec refusal-of-requires zero-rows-requires returns columns-of-requires span-in-requires rows-of-requires returns-2)
+    tie.close (tie.spec refusal-of-requires zero-rows-requires returns columns-of-requires rows-of-requires returns-2)

@@ -1,8 +1,10 @@
 -- `judge` meets its contract: refused as the checks say, or the verdict that the search finds.
 -- Assumes nothing.
 use borrow.Author.Needs.{needs}
-use Rattle.analysis.proofs.AnswerLaws.{good-of, refused-judged, Prepared, prepared, found-judged}
-use Rattle.analysis.proofs.Views.{good-counts}
+use Rattle.laws.proofs.Answers.{good-of}
+use Rattle.analysis.proofs.AnswerLaws.{refused-judged, found-judged}
+use Rattle.columns.specs.Columns.{Prepared}
+use Rattle.columns.proofs.Views.{prepared}
 use Rattle.analysis.proofs.judge.Statement.{statement}
 use Rattle.analysis.proofs.judge.Tie as tie
 
@@ -13,21 +15,18 @@ returns : tie.Need-returns
 returns c = refused-judged _ _ (c .before .before .refusal-of .ensures) (c .if1 .taken)
 
 columns-of-requires : tie.Need-columns-of-requires
-columns-of-requires c κs = good-counts _ (good-of _ _ (c .before .before .refusal-of .ensures) (c .if1 .left)) .0
+columns-of-requires c κs = search needs
 
-span-in-requires : tie.Need-span-in-requires
-span-in-requires c κs = good-of _ _ (c .before .before .before .refusal-of .ensures) (c .before .if1 .left)
-
-ready : (c : tie.After-span-in) → Prepared (c .before .before .before .before .before .args .s) (c .before .columns-of .result) (c .span-in .result)
+ready : (c : tie.After-columns-of) → Prepared (c .before .before .before .before .args .s) (c .columns-of .result)
 ready c =
-    prepared _ _ _ (good-of _ _ (c .before .before .before .before .refusal-of .ensures) (c .before .before .if1 .left)) (search needs) (search needs)
-    (c .before .columns-of .ensures) (c .span-in .ensures)
+    prepared _ _ (good-of _ _ (c .before .before .before .refusal-of .ensures) (c .before .if1 .left)) (search needs) (search needs)
+    (c .columns-of .ensures)
 
 search-requires : tie.Need-search-requires
-search-requires c κs = (ready c .testable, ready c .end)
+search-requires c κs = ready c
 
 returns-2 : tie.Need-returns-2
-returns-2 c = found-judged _ _ _ (ready (c .before)) _ (c .search .ensures)
+returns-2 c = found-judged _ _ (ready (c .before)) _ (c .search .ensures)
 
 pub judge-spec : {M : Type 1} → statement M
-judge-spec = tie.close (tie.spec refusal-of-requires returns columns-of-requires span-in-requires search-requires returns-2)
+judge-spec = tie.close (tie.spec refusal-of-requires returns columns-of-requires search-requires returns-2)

@@ -8,8 +8,8 @@ use native.Mathlib.Omega.{arith}
 use lib.IntN.{pos}
 use borrow.Author.Needs.{needs}
 use Rattle.model.specs.Scenarios.{margin}
-use Rattle.analysis.specs.Columns.{viewOf}
-use Rattle.analysis.proofs.Fill.{upTo, upTo-zero}
+use Rattle.columns.specs.Columns.{viewOf}
+use Rattle.laws.proofs.Fill.{upTo, upTo-zero}
 use Rattle.analysis.proofs.RowLaws.{margins-more, margins-all}
 use Rattle.analysis.proofs.rows.margins_of.Statement.{statement}
 use Rattle.analysis.proofs.rows.margins_of.Tie as tie

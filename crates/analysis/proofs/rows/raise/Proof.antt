@@ -4,9 +4,9 @@ use Prim.Native.Nat.{_-_, _≤_}
 use mathlib.Core.Path.{_≡_, sym}
 use native.Mathlib.Omega.{arith}
 use borrow.Author.Needs.{needs}
-use Rattle.analysis.specs.Columns.{viewOf}
+use Rattle.columns.specs.Columns.{viewOf}
 use Rattle.analysis.specs.Rows.{worseIn}
-use Rattle.analysis.proofs.Fill.{upTo, upTo-zero}
+use Rattle.laws.proofs.Fill.{upTo, upTo-zero}
 use Rattle.analysis.proofs.RowLaws.{raise-more, raise-all}
 use Rattle.analysis.proofs.rows.raise.Statement.{statement}
 use Rattle.analysis.proofs.rows.raise.Tie as tie

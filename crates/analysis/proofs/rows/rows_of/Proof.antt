@@ -5,8 +5,8 @@ use mathlib.Core.Path.{_≡_, sym, _∙_}
 use mathlib.Core.Logic.{⊎-elim}
 use native.Mathlib.Omega.{arith}
 use borrow.Author.Needs.{needs}
-use Rattle.analysis.specs.Columns.{viewOf}
-use Rattle.analysis.proofs.Search.{lo-runs, can-play, can-run}
+use Rattle.columns.specs.Columns.{viewOf}
+use Rattle.analysis.proofs.Scenarios.{can-play}
 use Rattle.analysis.proofs.RowLaws.{rowsTo, rows-start, rows-turn, rows-keep, rows-end}
 use Rattle.analysis.proofs.rows.rows_of.Statement.{statement}
 use Rattle.analysis.proofs.rows.rows_of.Tie as tie
@@ -14,38 +14,34 @@ use Rattle.analysis.proofs.rows.rows_of.Reads as reads
 use Rattle.analysis.proofs.rows.rows_of.Lts as lts
 
 abbrev Inv-loop : tie.InvT-loop
-Inv-loop k span n ends rows₀ x₀ rows x = (x ≤ k .n + 1) × (rows ≡ rowsTo (viewOf k) x)
+Inv-loop s k n ends rows₀ x₀ rows x = (x ≤ k .n + 1) × (rows ≡ rowsTo (viewOf k) x)
 
 abbrev μ-loop : tie.MeasureT-loop
-μ-loop k span n ends rows₀ x₀ rows x = k .n + 1 - x
+μ-loop s k n ends rows₀ x₀ rows x = k .n + 1 - x
 
-run-to-requires : tie.Need-run-to-requires Inv-loop μ-loop
-run-to-requires c κs = (lo-runs _ (c .before .pre .0), c .before .pre .1)
+lo-ends-requires : tie.Need-lo-ends-requires Inv-loop μ-loop
+lo-ends-requires c κs = c .pre
 
 zero-rows-requires : tie.Need-zero-rows-requires Inv-loop μ-loop
 zero-rows-requires c κs = search needs
 
 loop-holds : tie.Need-loop-holds Inv-loop μ-loop
-loop-holds c = (omega arith, c .zero-rows .ensures ∙ rows-start _ (c .before .before .before .before .pre .0))
+loop-holds c = (omega arith, c .zero-rows .ensures ∙ rows-start _ (c .before .before .pre .testable))
 
 plays-in-requires : tie.Need-plays-in-requires Inv-loop μ-loop
-plays-in-requires c κs = (c .before .before .before .before .before .before .pre .0, c .loop-test .taken)
+plays-in-requires c κs = (c .before .before .before .before .pre .testable, c .loop-test .taken)
 
-times-in-requires : tie.Need-times-in-requires Inv-loop μ-loop
-times-in-requires c κs =
-    can-play _ (c .before .before .before .before .before .before .before .before .pre .0) _ (c .before .before .loop-test .taken) (sym (c .before .plays-in .ensures) ∙ c .if1 .taken) _ (c .before .before .before .before .before .before .run-to .ensures)
-
-run-to-requires-2 : tie.Need-run-to-requires-2 Inv-loop μ-loop
-run-to-requires-2 c κs = (
-  can-run _ (c .before .before .before .before .before .before .before .before .before .pre .0) _ _ (c .before .before .before .loop-test .taken) (sym (c .before .before .plays-in .ensures) ∙ c .before .if1 .taken) (c .times-in .ensures),
-  c .before .before .before .before .before .before .before .before .before .pre .1,
-)
+ends-in-requires : tie.Need-ends-in-requires Inv-loop μ-loop
+ends-in-requires c κs =
+    let h = c .before .before .before in
+    let p = h .before .before .before .pre in
+    (p, can-play _ _ p _ (c .before .before .loop-test .taken) (sym (c .before .plays-in .ensures) ∙ c .if1 .taken) _ (h .before .before .lo-ends .ensures))
 
 mul-rows : tie.Need-mul-rows Inv-loop μ-loop
 mul-rows c = search needs
 
 array-set-from-rows : tie.Need-array-set-from-rows Inv-loop μ-loop
-array-set-from-rows c = omega (arith, c .before .before .before .before .before .before .before .before .before .before .before .pre .0 .full .n, c .before .before .before .before .before .loop-test .taken)
+array-set-from-rows c = let h = c .before .before .before .before in omega (arith, h .before .before .before .pre .testable .full .n, c .before .before .before .loop-test .taken)
 
 add-x : tie.Need-add-x Inv-loop μ-loop
 add-x c = search needs
@@ -57,17 +53,17 @@ loop-again : tie.Need-loop-again Inv-loop μ-loop
 loop-again c = (
   omega arith,
   ⊎-elim
-      (λ w. w .4 ∙ rows-turn _ (c .before .before .before .before .before .before .before .before .pre .0) _ _ _ _ (c .before .before .before .loop .inv .1) (c .before .before .loop-test .taken) (sym (c .before .plays-in .ensures) ∙ w .0 .taken) (w .1 .ensures) (w .2 .ensures))
-      (λ w. w .1 ∙ c .before .before .before .loop .inv .1 ∙ rows-keep _ (c .before .before .before .before .before .before .before .before .pre .0) _ (sym (c .before .plays-in .ensures) ∙ w .0 .left))
+      (λ w. w .2 ∙ rows-turn _ (c .before .before .before .before .before .before .pre .testable) _ _ _ (c .before .before .before .loop .inv .1) (c .before .before .loop-test .taken) (sym (c .before .plays-in .ensures) ∙ w .0 .taken) (w .1 .ensures))
+      (λ w. w .1 ∙ c .before .before .before .loop .inv .1 ∙ rows-keep _ (c .before .before .before .before .before .before .pre .testable) _ (sym (c .before .plays-in .ensures) ∙ w .0 .left))
       (c .if1 .came),
 )
 
 returns : tie.Need-returns Inv-loop μ-loop
-returns c = c .before .loop .inv .1 ∙ rows-end _ (c .before .before .before .before .before .before .pre .0) _ (omega arith)
+returns c = c .before .loop .inv .1 ∙ rows-end _ (c .before .before .before .before .pre .testable) _ (omega arith)
 
 pub rows-of-spec : {M : Type 1} → statement M
 rows-of-spec =
     tie.close
     (tie.spec
-    Inv-loop μ-loop run-to-requires zero-rows-requires loop-holds plays-in-requires times-in-requires run-to-requires-2 mul-rows array-set-from-rows
+    Inv-loop μ-loop lo-ends-requires zero-rows-requires loop-holds plays-in-requires ends-in-requires mul-rows array-set-from-rows
     add-x loop-less loop-again returns)

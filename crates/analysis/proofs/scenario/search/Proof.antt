@@ -7,45 +7,49 @@ use mathlib.Core.Logic.{⊎-elim}
 use native.Mathlib.Omega.{arith}
 use borrow.Author.Needs.{needs}
 use Rattle.model.specs.Scenarios.{verdict}
-use Rattle.analysis.specs.Columns.{viewOf}
+use Rattle.columns.specs.Columns.{viewOf}
+use Rattle.runs.specs.Engine.{runOf}
 use Rattle.analysis.proofs.Found.{Found, turn-pass, turn-skip, found-fit, found-miss, unfit-is, fit-is, job-fits}
-use Rattle.analysis.proofs.Search.{rest, rest-start, Passed, passed-more, lo-runs, can-play, can-run, missed-turn}
+use Rattle.analysis.proofs.Scenarios.{can-play, scenario-ran}
+use Rattle.analysis.proofs.Search.{rest, rest-start, Passed, passed-more, missed-turn}
 use Rattle.analysis.proofs.scenario.search.Statement.{statement}
 use Rattle.analysis.proofs.scenario.search.Tie as tie
 
 abbrev Inv-loop : tie.InvT-loop
-Inv-loop span k n ends x job₀ finish₀ times r job finish = (job ≤ n) × Passed k times job
+Inv-loop s k n ends x job₀ finish₀ times r job finish = (job ≤ n) × Passed k times job × (r ≡ runOf (viewOf k) times)
 
 abbrev μ-loop : tie.MeasureT-loop
-μ-loop span k n ends x job₀ finish₀ times r job finish = n - job
+μ-loop s k n ends x job₀ finish₀ times r job finish = n - job
 
 abbrev Inv-search : tie.InvT-search
-Inv-search span k n ends x₀ job₀ finish₀ times₀ x job finish times = (x ≤ n + 1) × (verdict (viewOf k) ≡ rest (viewOf k) x)
+Inv-search s k n ends x₀ job₀ finish₀ times₀ x job finish times = (x ≤ n + 1) × (verdict (viewOf k) ≡ rest (viewOf k) x)
 
 abbrev μ-search : tie.MeasureT-search
-μ-search span k n ends x₀ job₀ finish₀ times₀ x job finish times = n + 1 - x
+μ-search s k n ends x₀ job₀ finish₀ times₀ x job finish times = n + 1 - x
 
-run-to-requires : tie.Need-run-to-requires Inv-loop μ-loop Inv-search μ-search
-run-to-requires c κs = (lo-runs _ (c .before .pre .0), c .before .pre .1)
+lo-ends-requires : tie.Need-lo-ends-requires Inv-loop μ-loop Inv-search μ-search
+lo-ends-requires c κs = c .pre
 
 search-holds : tie.Need-search-holds Inv-loop μ-loop Inv-search μ-search
 search-holds c = (omega arith, rest-start _)
 
 plays-in-requires : tie.Need-plays-in-requires Inv-loop μ-loop Inv-search μ-search
-plays-in-requires c κs = (c .before .before .before .before .before .pre .0, c .search-test .taken)
+plays-in-requires c κs = (c .before .before .before .pre .testable, c .search-test .taken)
 
 times-in-requires : tie.Need-times-in-requires Inv-loop μ-loop Inv-search μ-search
 times-in-requires c κs =
-    can-play _ (c .before .before .before .before .before .before .before .pre .0) _ (c .before .before .search-test .taken) (sym (c .before .plays-in .ensures) ∙ c .if1 .taken) _ (c .before .before .before .before .before .run-to .ensures)
+    can-play _ _ (c .before .before .before .before .before .pre) _ (c .before .before .search-test .taken) (sym (c .before .plays-in .ensures) ∙ c .if1 .taken) _ (c .before .before .before .before .lo-ends .ensures)
 
-run-to-requires-2 : tie.Need-run-to-requires-2 Inv-loop μ-loop Inv-search μ-search
-run-to-requires-2 c κs = (
-  can-run _ (c .before .before .before .before .before .before .before .before .pre .0) _ _ (c .before .before .before .search-test .taken) (sym (c .before .before .plays-in .ensures) ∙ c .before .if1 .taken) (c .times-in .ensures),
-  c .before .before .before .before .before .before .before .before .pre .1,
-)
+execute-requires : tie.Need-execute-requires Inv-loop μ-loop Inv-search μ-search
+execute-requires c κs = search needs
 
 loop-holds : tie.Need-loop-holds Inv-loop μ-loop Inv-search μ-search
-loop-holds c = (omega arith, λ i q. absurd (omega arith))
+loop-holds c = (
+  omega arith,
+  λ i q. absurd (omega arith),
+  let t = c .before .before in
+      scenario-ran _ _ (t .before .before .before .before .before .pre) _ (t .before .before .search-test .taken) (sym (t .before .plays-in .ensures) ∙ t .if1 .taken) _ _ (c .before .times-in .ensures) (c .execute .ensures),
+)
 
 mul-finish : tie.Need-mul-finish Inv-loop μ-loop Inv-search μ-search
 mul-finish c = search needs
@@ -72,11 +76,14 @@ loop-less : tie.Need-loop-less Inv-loop μ-loop Inv-search μ-search
 loop-less c = search needs
 
 loop-again : tie.Need-loop-again Inv-loop μ-loop Inv-search μ-search
-loop-again c = (
-  omega arith,
-  passed-more _ (c .before .before .before .before .before .before .before .before .before .before .before .before .before .before .before .before .pre .0) _ _ (c .before .before .before .before .before .before .loop .inv .1)
-      (missed-turn _ (c .before .before .before .before .before .before .before .before .before .before .before .before .before .before .before .before .pre .0) _ _ _ _ _ (c .before .before .before .before .before .loop-test .taken) (c .before .before .before .before .before .before .before .run-to2 .ensures) (c .before .misses .ensures) (c .if2 .left)),
-)
+loop-again c =
+    let i = c .before .before .before .before .before in
+    let h = i .before in
+    let t = h .before .before .before .before .before .before .before .before .pre .testable in (
+      omega arith,
+      passed-more _ t _ _ (h .loop .inv .1) (missed-turn _ t _ _ _ _ _ (i .loop-test .taken) (h .loop .inv .2) (c .before .misses .ensures) (c .if2 .left)),
+      h .loop .inv .2,
+    )
 
 add-x : tie.Need-add-x Inv-loop μ-loop Inv-search μ-search
 add-x c = search needs
@@ -89,38 +96,38 @@ search-again c = (
   omega arith,
   ⊎-elim
       (λ w.
-      turn-pass _ (c .before .before .before .before .before .before .before .pre .0) _ _ _ (c .before .before .before .search .inv .1) (c .before .before .search-test .taken) (sym (c .before .plays-in .ensures) ∙ w .0 .taken) (w .1 .ensures)
+      turn-pass _ (c .before .before .before .before .before .pre .testable) _ _ _ (c .before .before .before .search .inv .1) (c .before .before .search-test .taken) (sym (c .before .plays-in .ensures) ∙ w .0 .taken) (w .1 .ensures)
       (w .3 .inv .1) (w .4 .left))
-      (λ w. turn-skip _ (c .before .before .before .before .before .before .before .pre .0) _ (c .before .before .before .search .inv .1) (c .before .before .search-test .taken) (sym (c .before .plays-in .ensures) ∙ w .0 .left))
+      (λ w. turn-skip _ (c .before .before .before .before .before .pre .testable) _ (c .before .before .before .search .inv .1) (c .before .before .search-test .taken) (sym (c .before .plays-in .ensures) ∙ w .0 .left))
       (c .if1 .came),
 )
 
 -- where the search has left its loops
 left : (c : tie.Left-search Inv-loop μ-loop Inv-search μ-search)
-    → Found (c .before .before .before .before .before .args .t1) (c .before .search .x) (c .search-test .job) (c .search-test .finish) (c .search-test .times)
+    → Found (c .before .before .before .args .t2) (c .before .search .x) (c .search-test .job) (c .search-test .finish) (c .search-test .times)
 left c =
     ⊎-elim
-    (λ w. found-fit _ (c .before .before .before .before .before .pre .0) _ _ _ _ (c .before .search .inv .1) (w .0 .left))
+    (λ w. found-fit _ (c .before .before .before .pre .testable) _ _ _ _ (c .before .search .inv .1) (w .0 .left))
     (λ w.
     rw (w .12, w .13, w .14)
-    (found-miss _ (c .before .before .before .before .before .pre .0) _ _ _ _ _ _ (c .before .search .inv .1) (w .0 .taken) (sym (w .1 .ensures) ∙ w .2 .taken) (w .3 .ensures) (w .4 .ensures)
+    (found-miss _ (c .before .before .before .pre .testable) _ _ _ _ _ _ (c .before .search .inv .1) (w .0 .taken) (sym (w .1 .ensures) ∙ w .2 .taken) (w .3 .ensures) (w .5 .inv .2)
     (w .5 .inv .1) (w .6 .taken) refl (w .10 .ensures) (w .11 .taken)))
     (c .search-test .came)
 
 unfit-in-requires : tie.Need-unfit-in-requires Inv-loop μ-loop Inv-search μ-search
 unfit-in-requires c κs =
-    (omega (arith, c .before .before .before .before .before .before .pre .0 .full .n, c .if3 .taken), job-fits _ (c .before .before .before .before .before .before .pre .0) _ _ _ _ (left (c .before)) (c .if3 .taken))
+    (omega (arith, c .before .before .before .before .pre .testable .full .n, c .if3 .taken), job-fits _ (c .before .before .before .before .pre .testable) _ _ _ _ (left (c .before)) (c .if3 .taken))
 
 returns : tie.Need-returns Inv-loop μ-loop Inv-search μ-search
-returns c = unfit-is _ (c .before .before .before .before .before .before .before .pre .0) _ _ _ _ _ (left (c .before .before)) (c .before .if3 .taken) (c .unfit-in .ensures)
+returns c = unfit-is _ (c .before .before .before .before .before .pre .testable) _ _ _ _ _ (left (c .before .before)) (c .before .if3 .taken) (c .unfit-in .ensures)
 
 returns-2 : tie.Need-returns-2 Inv-loop μ-loop Inv-search μ-search
-returns-2 c = fit-is _ (c .before .before .before .before .before .before .pre .0) _ _ _ _ (left (c .before)) (c .if3 .left)
+returns-2 c = fit-is _ (c .before .before .before .before .pre .testable) _ _ _ _ (left (c .before)) (c .if3 .left)
 
 pub search-spec : {M : Type 1} → statement M
 search-spec =
     tie.close
     (tie.spec
-    Inv-loop μ-loop Inv-search μ-search run-to-requires search-holds plays-in-requires times-in-requires run-to-requires-2 loop-holds mul-finish
+    Inv-loop μ-loop Inv-search μ-search lo-ends-requires search-holds plays-in-requires times-in-requires execute-requires loop-holds mul-finish
     element-copy-out-finish element-copy-out-misses mul-misses element-copy-out-misses-2 misses-requires add-job loop-less loop-again add-x search-less
     search-again unfit-in-requires returns returns-2)

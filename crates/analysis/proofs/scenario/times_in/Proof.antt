@@ -4,7 +4,7 @@ use Prim.Native.Nat.{_≤_, _-_}
 use mathlib.Core.Path.{_≡_, sym}
 use native.Mathlib.Omega.{arith}
 use borrow.Author.Needs.{needs}
-use Rattle.analysis.proofs.Fill.{upTo, upTo-zero}
+use Rattle.laws.proofs.Fill.{upTo, upTo-zero}
 use Rattle.analysis.proofs.Raised.{timeIn, times-lo, x-place, times-hi, times-more}
 use Rattle.analysis.proofs.scenario.times_in.Statement.{statement}
 use Rattle.analysis.proofs.scenario.times_in.Tie as tie

@@ -1,0 +1,2 @@
+-- What the columns are, and what they spell out.
+pub mod Columns

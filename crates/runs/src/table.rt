@@ -1,0 +1,124 @@
+// The two tables, each into lent room: the LO table by the engine's step, and the HI table from it by rules (a), (b) and (c).
+ghost use mathlib.Core.Path.{_≡_};
+ghost use mathlib.Core.List.{_++_};
+ghost use Prim.Native.Nat.{_<_};
+ghost use lib.ListN.{drop, take};
+ghost use Rattle.model.specs.Lists.{at};
+ghost use Rattle.model.specs.Sets.{span as spanOf};
+ghost use Rattle.model.specs.Scenarios.{loTimes};
+ghost use Rattle.model.specs.Tables.{loTable, hiTable};
+ghost use Rattle.columns.specs.Columns.{viewOf};
+ghost use Rattle.runs.specs.Slots.{enabledIn, chosen, counted, Choosable, Fillable};
+use crate::engine::start;
+use crate::engine::step;
+use columns::Columns;
+use measures::is_enabled;
+
+// Makes the LO table: scenario 0, slot by slot.
+pub fn lo_table(k: Columns, span: u16, table: &mut [u16])
+    requires { ⌜ Fillable k span (now table) × (k .lo ≡ loTimes (viewOf k)) ⌝ }
+    ensures { λ r. ⌜ now (table .exit) ≡ loTable (viewOf k) ++ drop (spanOf (viewOf k)) (now (table .entry)) ⌝ }
+{
+    let n = k.n;
+    let m = k.m;
+    let lo_order = k.lo_order;
+    let hi_order = k.hi_order;
+    let mut g = start(n, &k.lo);
+    let mut t: u16 = 0;
+    while t < span {
+        g = step(
+            n,
+            &k.arrivals,
+            &k.critical,
+            &k.lo,
+            &lo_order[..n],
+            &hi_order[..m],
+            &k.lo,
+            t,
+            g,
+        );
+        table[t as usize] = g.slot;
+        t += 1;
+    }
+}
+
+// Whether a number names a HI job that is enabled, by the slots had in both tables and the budgets of all jobs, where the LO table runs
+// job `slot`.
+fn enables<'a>(
+    had: &'a [u16],
+    lo_had: &'a [u16],
+    lo: &'a [u16],
+    hi: &'a [u16],
+    slot: u16,
+    j: u16,
+) -> bool
+    requires { ⌜ Choosable (now had) (now «lo_had») (now lo) (now hi) ⌝ }
+    ensures { λ r. ⌜ r ≡ enabledIn (now (had .entry)) (now («lo_had» .entry)) (now (lo .entry)) (now (hi .entry)) slot j ⌝ }
+{
+    let k = j as usize;
+    if k == 0 {
+        return false;
+    }
+    if 64 < k {
+        return false;
+    }
+    is_enabled(had[k - 1], lo_had[k - 1], lo[k - 1], hi[k - 1], slot == j)
+}
+
+// The first enabled job of an order, 0 where there is none. An entry that names no job is passed over.
+fn hi_pick<'a>(
+    order: &'a [u16],
+    had: &'a [u16],
+    lo_had: &'a [u16],
+    lo: &'a [u16],
+    hi: &'a [u16],
+    slot: u16,
+) -> u16
+    requires { ⌜ Choosable (now had) (now «lo_had») (now lo) (now hi) ⌝ }
+    ensures { λ r. ⌜ r ≡ chosen (now (order .entry)) (now (had .entry)) (now («lo_had» .entry)) (now (lo .entry)) (now (hi .entry)) slot ⌝ }
+{
+    let mut i: usize = 0;
+    while i < order.len() {
+        let j = order[i];
+        if enables(had, lo_had, lo, hi, slot, j) {
+            return j;
+        }
+        i += 1;
+    }
+    0
+}
+
+// One slot more for job j. A number that names no place changes nothing.
+fn count(had: &mut [u16], j: u16)
+    requires { ⌜ at (now had) j 0 < 65535 ⌝ }
+    ensures { λ r. ⌜ now (had .exit) ≡ counted (now (had .entry)) j ⌝ }
+{
+    let k = j as usize;
+    if k == 0 {
+        return;
+    }
+    if had.len() < k {
+        return;
+    }
+    had[k - 1] += 1;
+}
+
+// Makes the HI table from the LO table.
+pub fn hi_table(k: Columns, span: u16, lo: &[u16], table: &mut [u16])
+    requires { ⌜ Fillable k span (now table) × (take (spanOf (viewOf k)) (now lo) ≡ loTable (viewOf k)) ⌝ }
+    ensures { λ r. ⌜ now (table .exit) ≡ hiTable (viewOf k) ++ drop (spanOf (viewOf k)) (now (table .entry)) ⌝ }
+{
+    let m = k.m;
+    let hi_order = k.hi_order;
+    let mut lo_had = [0u16; 64];
+    let mut had = [0u16; 64];
+    let mut t: u16 = 0;
+    while t < span {
+        let slot = lo[t as usize];
+        let j = hi_pick(&hi_order[..m], &had, &lo_had, &k.lo, &k.hi, slot);
+        table[t as usize] = j;
+        count(&mut lo_had, slot);
+        count(&mut had, j);
+        t += 1;
+    }
+}
