@@ -1,18 +1,14 @@
-// Runs the cases of standard input through the analysis, and prints its answers.
-// A line builds a set (build.rt), or begins with `? ` and asks something of it (ask.rt). Any other line is a comment.
-mod ask;
-mod build;
-mod show;
-mod text;
-
-use ask::answer;
-use build::built;
-use build::no_set;
-use text::Name;
-use text::first;
-use text::line_end;
-use text::name_in;
-use text::named;
+// Runs the cases of standard input through the library, and prints its answers.
+// A line builds a set (crate case_text), or begins with `? ` and asks something of it (crate questions). Any other line is a comment.
+use answer_text::bytes;
+use case_text::built;
+use case_text::first;
+use case_text::line_at;
+use case_text::next_line;
+use case_text::no_set;
+use case_text::rest;
+use libc::STDOUT_FILENO;
+use model::Set;
 
 fn main() {
     let mut room = io::large_buffer();
@@ -20,17 +16,32 @@ fn main() {
     play(&room[..n]);
 }
 
+// Where the line of the last set stands, after a line at an index.
+fn set_at(line: &[u8], at: usize, before: usize) -> usize {
+    if first(line) == b's' { at } else { before }
+}
+
+// Prints the answer to a line that asks: the set's name, the question, and what the library says.
+fn answer(name: &[u8], line: &[u8], s: Set) {
+    if first(line) != b'?' {
+        return;
+    }
+    bytes(STDOUT_FILENO, name);
+    bytes(STDOUT_FILENO, rest(line, 1));
+    questions::answer(STDOUT_FILENO, name, rest(line, 2), s);
+    bytes(STDOUT_FILENO, b"\n");
+}
+
 // Goes through the lines. What is asked is answered under the name of the set that was built last.
 fn play(text: &[u8]) {
     let mut s = no_set();
-    let mut name = Name { from: 0, to: 0 };
+    let mut named: usize = 0;
     let mut at: usize = 0;
     while at < text.len() {
-        let end = line_end(text, at);
-        let line = &text[at..end];
-        name = named(first(line), at, end, name);
+        let line = line_at(text, at);
+        named = set_at(line, at, named);
         s = built(line, s);
-        answer(name_in(text, name), line, s);
-        at = end + 1;
+        answer(rest(line_at(text, named), 4), line, s);
+        at = next_line(text, at);
     }
 }
