@@ -7,9 +7,9 @@ ghost use Rattle.model.specs.Sets.{view, members};
 ghost use Rattle.model.specs.Scenarios.{hiJobs};
 ghost use Rattle.rules.specs.Rules.{breaksAt};
 use model::Set;
-use rules::breaks;
-use rules::is_hi;
-use rules::places;
+use rules::jobs::breaks;
+use rules::jobs::is_hi;
+use rules::orders::places;
 
 // The number, at the width of a place value.
 pub fn wide(x: u16) -> u64

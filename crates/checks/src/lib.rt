@@ -15,7 +15,7 @@ use model::Set;
 use refusals::check_count;
 use refusals::check_jobs;
 use refusals::check_orders;
-use rules::places;
+use rules::orders::places;
 
 // The first refusal by checks 2 to 7 that applies to the set, with its place; number 0 where none does.
 pub fn refusal_of(s: Set) -> Refusal

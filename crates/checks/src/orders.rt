@@ -6,7 +6,7 @@ ghost use Rattle.model.specs.Sets.{isHi, view};
 ghost use Rattle.rules.specs.Rules.{mayStand, marked};
 use model::Level;
 use model::Set;
-use rules::is_hi;
+use rules::jobs::is_hi;
 
 // A job of level l may stand in the order of mode m: any in LO, a HI job in HI.
 fn may_stand(l: Level, m: Level) -> bool

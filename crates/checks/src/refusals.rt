@@ -17,7 +17,7 @@ use model::Refusal;
 use model::SPAN;
 use model::Set;
 use model::TIME;
-use rules::fault_of;
+use rules::orders::fault_of;
 
 // Refusal `number` with its place, where it applies.
 fn applies(number: u8, place: u64, wrong: bool) -> Refusal

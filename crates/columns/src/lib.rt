@@ -2,8 +2,8 @@
 ghost use mathlib.Core.Path.{_≡_};
 ghost use Rattle.columns.specs.Columns.{columnsOf};
 use model::Set;
-use rules::is_hi;
-use rules::places;
+use rules::jobs::is_hi;
+use rules::orders::places;
 
 pub struct Columns {
     pub n: usize,

@@ -9,6 +9,9 @@ use mathlib.Core.Path.{_≡_, sym, _∙_}
 use mathlib.Core.Bool.{Bool}
 use mathlib.Core.List.{List}
 use lib.IntN.{ℤ}
+use Rattle.model.specs.declared.Level.{Level}
+use Rattle.model.specs.declared.Job.{Job}
+use Rattle.model.specs.declared.Order.{Order}
 use Rattle.model.specs.declared.Set.{Set}
 use Rattle.model.specs.declared.Pick.{Pick}
 use Rattle.model.specs.declared.Switch.{Switch}
@@ -16,6 +19,7 @@ use Rattle.model.specs.declared.Refusal.{Refusal}
 use Rattle.model.specs.declared.Ran.{Ran}
 use Rattle.model.specs.declared.Judged.{Judged}
 use Rattle.columns.specs.declared.Columns.{Columns}
+use Rattle.ground.specs.Promises.{IsHi, Breaks, Places, FaultOf}
 use Rattle.ground.specs.Promises.{RefusalOf, SpanOf, ColumnsOf, Judges, FinishRows, RowsRefusal, WorstFinishes, Margins, Executes}
 use Rattle.ground.specs.Promises.{Picks, Parts, PartRefusal, MakesTables, InRange, Outruns, IsEnabled, Misses, Worse, MarginOf}
 

@@ -1,7 +1,7 @@
 -- What the public functions promise, as relations between what a call is given and what it answers. Each is the function's own promise, as the
 -- kit reads it off the contract (`Reads.Post`), and no copy of it: of the lifetimes, the arguments, the answer, and the arguments at exit.
 --   RefusalOf s x     == `refusal_of` may answer x for the set s, by its promise;  so for the others:
---   SpanOf, ColumnsOf, Judges, FinishRows, RowsRefusal, WorstFinishes, Margins
+--   IsHi, Breaks, Places, FaultOf, SpanOf, ColumnsOf, Judges, FinishRows, RowsRefusal, WorstFinishes, Margins
 --   Executes s c x    == `execute`, with the running times c
 --   Picks o a d t x   == `pick`, lent an order o, arrivals a and who is done d, at the instant t
 --   Parts l t x       == `part` of the table l from the instant t: the slice that it answers holds x;  PartRefusal: its companion
@@ -14,6 +14,9 @@ use lib.IntN.{ℤ}
 use base.Fml.{GName}
 use contract.Lifetimes.{Lfts}
 use denote.Ref.{RefT}
+use Rattle.model.specs.declared.Level.{Level}
+use Rattle.model.specs.declared.Job.{Job}
+use Rattle.model.specs.declared.Order.{Order}
 use Rattle.model.specs.declared.Set.{Set}
 use Rattle.model.specs.declared.Pick.{Pick}
 use Rattle.model.specs.declared.Switch.{Switch}
@@ -21,6 +24,10 @@ use Rattle.model.specs.declared.Refusal.{Refusal}
 use Rattle.model.specs.declared.Ran.{Ran}
 use Rattle.model.specs.declared.Judged.{Judged}
 use Rattle.columns.specs.declared.Columns.{Columns}
+use Rattle.rules.proofs.jobs.is_hi.Reads.{Post as is-hi}
+use Rattle.rules.proofs.jobs.breaks.Reads.{Post as breaks}
+use Rattle.rules.proofs.orders.places.Reads.{Post as places}
+use Rattle.rules.proofs.orders.fault_of.Reads.{Post as fault-of}
 use Rattle.checks.proofs.refusal_of.Reads.{Post as refusal-of}
 use Rattle.checks.proofs.span_of.Reads.{Post as span-of}
 use Rattle.measures.proofs.in_range.Reads.{Post as in-range}
@@ -40,6 +47,18 @@ use Rattle.picks.proofs.pick.Reads.{Post as pick}
 use Rattle.parts.proofs.part.Reads.{Post as part}
 use Rattle.parts.proofs.part_refusal.Reads.{Post as part-refusal}
 use Rattle.runs.proofs.make_tables.Reads.{Post as make-tables}
+
+abbrev pub IsHi : Level → Bool → Type 0
+IsHi l x = is-hi tt (l, tt) x (l, tt)
+
+abbrev pub Breaks : Job → ℕ → Bool → Type 0
+Breaks j n x = breaks tt (j, (n, tt)) x (j, (n, tt))
+
+abbrev pub Places : ℕ → ℕ → Type 0
+Places n x = places tt (n, tt) x (n, tt)
+
+abbrev pub FaultOf : List Bool → Order → ℕ → Type 0
+FaultOf ok o x = fault-of tt (ok, (o, tt)) x (ok, (o, tt))
 
 abbrev pub RefusalOf : Set → Refusal → Type 0
 RefusalOf s x = refusal-of tt (s, tt) x (s, tt)
