@@ -1,5 +1,4 @@
 -- The slots of the two tables over the columns, and the slots that each job has had in them.
---   enabled-..        == who is enabled by the lists; a number that names no place is not
 --   Left, left-..     == the first that passes a test, an entry at a time
 --   counted-..        == one slot more for a job
 --   counts            == after t slots the places are still 64, and none has had more than t
@@ -25,30 +24,11 @@ use Rattle.model.specs.Scenarios.{loTimes, zeros}
 use Rattle.model.specs.Tables.{tableOf, loTable, loSlot, enabled, hiPick, hiHadAt, hiSlot}
 use Rattle.laws.proofs.Bools.{tests, split}
 use Rattle.laws.proofs.Sums.{getD-from}
-use Rattle.laws.proofs.Places.{at-in, at-out, at-set}
+use Rattle.laws.proofs.Places.{at-in, at-set}
 use Rattle.measures.specs.Measures.{enabledBy}
-use Rattle.measures.proofs.Enabled.{by-end}
 use Rattle.columns.specs.declared.Columns.{Columns}
 use Rattle.columns.specs.Columns.{listed, byMode, viewOf}
 use Rattle.runs.specs.Slots.{enabledIn, chosen, counted}
-
--- who is enabled ---------------------------------------------------------------------------------------------------------------------
-
-module _ (had loHad lo hi : List ℕ) (slot j : ℕ) where
-  pub enabled-zero : j ≡ 0 → enabledIn had loHad lo hi slot j ≡ false
-  unfolding enabledIn enabledBy at
-  enabled-zero e = rw e refl
-
-  pub enabled-nameless : length hi < j → enabledIn had loHad lo hi slot j ≡ false
-  unfolding enabledIn
-  enabled-nameless e =
-      by-end (at had j 0) (at loHad j 0) (at lo j 0) (at hi j 0) (eqb slot j) (omega (arith, at-out hi j 0 e))
-
-  pub enabled-place : 1 ≤ j
-      → enabledBy (getD had (j - 1) 0) (getD loHad (j - 1) 0) (getD lo (j - 1) 0) (getD hi (j - 1) 0) (eqb slot j)
-      ≡ enabledIn had loHad lo hi slot j
-  unfolding enabledIn
-  enabled-place h = rw (at-in had j 0 h, at-in loHad j 0 h, at-in lo j 0 h, at-in hi j 0 h) refl
 
 -- the pick, an entry at a time -------------------------------------------------------------------------------------------------------
 

@@ -19,7 +19,7 @@ use Rattle.columns.specs.declared.Columns.{Columns}
 use Rattle.runs.specs.declared.engine.Progress.{Progress}
 use Rattle.columns.specs.Columns.{listed, viewOf}
 use Rattle.runs.specs.Engine.{next, startOf, progressAt, Steppable}
-use Rattle.runs.specs.Slots.{chosen, counted, Choosable, Fillable}
+use Rattle.runs.specs.Slots.{chosen, counted, Fillable}
 use Rattle.runs.proofs.Progress.{progress-slot, progress-lengths, progress-slots}
 use Rattle.runs.proofs.Room.{filled, filled-none, filled-next, made-length}
 use Rattle.runs.proofs.Slots.{loHad, lo-start, hi-start, lo-next, hi-next, lo-counts, hi-counts, lo-read, hi-pick-is}
@@ -133,21 +133,12 @@ module _ (k : Columns) (n : ℕ) (lo e l a h : List ℕ) (t : ℕ) (i : HiTurn k
   unfolding hiTable tableOf
   hi-last q = i .table ∙ ap (λ m. filled (hiSlot (viewOf k)) m e) (omega arith)
 
-  pub hi-choosable : Choosable h a (k .lo) (k .hi)
-  hi-choosable =
-      record {
-        had = i .hi-places;
-        loHad = i .lo-places;
-        lo = i .given .testable .full .lo;
-        hi = i .given .testable .full .hi;
-      }
-
   -- neither count has reached 65,535
-  pub lo-countable : (j : ℕ) → at a j 0 < 65535
-  lo-countable j = rw (i .in-lo) (omega (arith, lo-counts (viewOf k) t .1 j))
+  pub lo-countable : (j : ℕ) → (length a ≡ 64) × (at a j 0 < 65535)
+  lo-countable j = (i .lo-places, rw (i .in-lo) (omega (arith, lo-counts (viewOf k) t .1 j)))
 
-  pub hi-countable : (j : ℕ) → at h j 0 < 65535
-  hi-countable j = rw (i .in-hi) (omega (arith, hi-counts (viewOf k) t .1 j))
+  pub hi-countable : (j : ℕ) → (length h ≡ 64) × (at h j 0 < 65535)
+  hi-countable j = (i .hi-places, rw (i .in-hi) (omega (arith, hi-counts (viewOf k) t .1 j)))
 
   pub hi-more : (j : ℕ) (a′ h′ : List ℕ) → take (span (viewOf k)) lo ≡ loTable (viewOf k) → t < n
       → j ≡ chosen (take (k .m) (k .«hi_order»)) h a (k .lo) (k .hi) (getD lo t 0)

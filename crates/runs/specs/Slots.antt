@@ -1,7 +1,6 @@
 -- The slots of the HI table over lent lists.
 --   enabledIn, chosen   == rules (a), (b), (c) for a job, by the lists that hold its numbers; the first of an order that is enabled, 0 for none
 --   counted l j         == one slot more for job j; nothing for 0
---   Choosable           == the lists have their 64 places
 --   Fillable k n l      == full columns of a sound set, n its span, and room l for a table
 use Prim.Native.Nat.{ℕ, _≤_}
 use mathlib.Core.Path.{_≡_}
@@ -24,12 +23,6 @@ chosen order had loHad lo hi slot = first (enabledIn had loHad lo hi slot) order
 
 unfoldable pub counted : List ℕ → ℕ → List ℕ
 counted l j = cond (eqb j 0) l (bump l j)
-
-pub record Choosable (h l b c : List ℕ) : Type 0 where
-  pub had : length h ≡ 64
-  pub loHad : length l ≡ 64
-  pub lo : length b ≡ 64
-  pub hi : length c ≡ 64
 
 pub record Fillable (k : Columns) (n : ℕ) (l : List ℕ) : Type 0 where
   pub testable : Testable k

@@ -2,13 +2,13 @@
 ghost use mathlib.Core.Path.{_≡_};
 ghost use mathlib.Core.List.{_++_};
 ghost use Prim.Native.Nat.{_<_};
-ghost use lib.ListN.{drop, take};
+ghost use lib.ListN.{drop, length, take};
 ghost use Rattle.model.specs.Lists.{at};
 ghost use Rattle.model.specs.Sets.{span as spanOf};
 ghost use Rattle.model.specs.Scenarios.{loTimes};
 ghost use Rattle.model.specs.Tables.{loTable, hiTable};
 ghost use Rattle.columns.specs.Columns.{viewOf};
-ghost use Rattle.runs.specs.Slots.{enabledIn, chosen, counted, Choosable, Fillable};
+ghost use Rattle.runs.specs.Slots.{enabledIn, chosen, counted, Fillable};
 use crate::engine::start;
 use crate::engine::step;
 use columns::Columns;
@@ -42,6 +42,20 @@ pub fn lo_table(k: Columns, span: u16, table: &mut [u16])
     }
 }
 
+// What a list holds for job j, 0 where it has no place for it.
+fn entry(list: &[u16], j: u16) -> u16
+    ensures { λ r. ⌜ r ≡ at (now (list .entry)) j 0 ⌝ }
+{
+    let k = j as usize;
+    if k == 0 {
+        return 0;
+    }
+    if list.len() < k {
+        return 0;
+    }
+    list[k - 1]
+}
+
 // Whether a number names a HI job that is enabled, by the slots had in both tables and the budgets of all jobs, where the LO table runs
 // job `slot`.
 fn enables<'a>(
@@ -52,17 +66,9 @@ fn enables<'a>(
     slot: u16,
     j: u16,
 ) -> bool
-    requires { ⌜ Choosable (now had) (now «lo_had») (now lo) (now hi) ⌝ }
     ensures { λ r. ⌜ r ≡ enabledIn (now (had .entry)) (now («lo_had» .entry)) (now (lo .entry)) (now (hi .entry)) slot j ⌝ }
 {
-    let k = j as usize;
-    if k == 0 {
-        return false;
-    }
-    if 64 < k {
-        return false;
-    }
-    is_enabled(had[k - 1], lo_had[k - 1], lo[k - 1], hi[k - 1], slot == j)
+    is_enabled(entry(had, j), entry(lo_had, j), entry(lo, j), entry(hi, j), slot == j)
 }
 
 // The first enabled job of an order, 0 where there is none. An entry that names no job is passed over.
@@ -74,7 +80,6 @@ fn hi_pick<'a>(
     hi: &'a [u16],
     slot: u16,
 ) -> u16
-    requires { ⌜ Choosable (now had) (now «lo_had») (now lo) (now hi) ⌝ }
     ensures { λ r. ⌜ r ≡ chosen (now (order .entry)) (now (had .entry)) (now («lo_had» .entry)) (now (lo .entry)) (now (hi .entry)) slot ⌝ }
 {
     let mut i: usize = 0;
@@ -88,19 +93,21 @@ fn hi_pick<'a>(
     0
 }
 
-// One slot more for job j. A number that names no place changes nothing.
-fn count(had: &mut [u16], j: u16)
-    requires { ⌜ at (now had) j 0 < 65535 ⌝ }
-    ensures { λ r. ⌜ now (had .exit) ≡ counted (now (had .entry)) j ⌝ }
+// The slots had, with one more for job j. A number that names no place changes nothing.
+fn count(had: [u16; 64], j: u16) -> [u16; 64]
+    requires { ⌜ (length had ≡ 64) × (at had j 0 < 65535) ⌝ }
+    ensures { λ r. ⌜ r ≡ counted had j ⌝ }
 {
     let k = j as usize;
     if k == 0 {
-        return;
+        return had;
     }
-    if had.len() < k {
-        return;
+    if 64 < k {
+        return had;
     }
-    had[k - 1] += 1;
+    let mut more = had;
+    more[k - 1] = had[k - 1] + 1;
+    more
 }
 
 // Makes the HI table from the LO table.
@@ -117,8 +124,10 @@ pub fn hi_table(k: Columns, span: u16, lo: &[u16], table: &mut [u16])
         let slot = lo[t as usize];
         let j = hi_pick(&hi_order[..m], &had, &lo_had, &k.lo, &k.hi, slot);
         table[t as usize] = j;
-        count(&mut lo_had, slot);
-        count(&mut had, j);
+        let lo_more = count(lo_had, slot);
+        lo_had = lo_more;
+        let more = count(had, j);
+        had = more;
         t += 1;
     }
 }

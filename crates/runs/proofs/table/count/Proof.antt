@@ -11,41 +11,33 @@ returns : tie.Need-returns
 returns c = counted-zero _ _ (c .if1 .taken)
 
 returns-2 : tie.Need-returns-2
-returns-2 c = counted-out _ _ (c .if2 .taken)
+returns-2 c = counted-out _ _ (omega arith)
 
-sub-had : tie.Need-sub-had
-sub-had c = search needs
+sub-more : tie.Need-sub-more
+sub-more c = search needs
 
-mul-had : tie.Need-mul-had
-mul-had c = search needs
+mul-more : tie.Need-mul-more
+mul-more c = search needs
 
-slice-read-had : tie.Need-slice-read-had
-slice-read-had c = search needs
+array-read-more : tie.Need-array-read-more
+array-read-more c = search needs
 
-add-had : tie.Need-add-had
-add-had c =
-    let a = c .before .before .before .args in
-    omega (arith, at-in (a .had .now) (a .j) 0 (omega arith))
+add-more : tie.Need-add-more
+add-more c =
+    let a = c .before .before .args in
+    omega (arith, at-in (a .t1) (a .j) 0 (omega arith))
 
-slice-write-had : tie.Need-slice-write-had
-slice-write-had c = search needs
+sub-more-2 : tie.Need-sub-more-2
+sub-more-2 c = search needs
 
-same-length : tie.Need-same-length
-same-length c = search needs
+mul-more-2 : tie.Need-mul-more-2
+mul-more-2 c = search needs
+
+array-write-more : tie.Need-array-write-more
+array-write-more c = search needs
 
 returns-3 : tie.Need-returns-3
 returns-3 c = counted-in _ _ (omega arith)
 
 pub count-spec : {M : Type 1} → statement M
-count-spec =
-    tie.close
-    (tie.spec
-    returns
-    returns-2
-    sub-had
-    mul-had
-    slice-read-had
-    add-had
-    slice-write-had
-    same-length
-    returns-3)
+count-spec = tie.close (tie.spec returns returns-2 sub-more mul-more array-read-more add-more sub-more-2 mul-more-2 array-write-more returns-3)

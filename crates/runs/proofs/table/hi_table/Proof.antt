@@ -6,7 +6,7 @@ use mathlib.Core.Path.{sym}
 use lib.Seq.{length-take-le}
 use borrow.Author.Needs.{needs}
 use Rattle.model.specs.Scenarios.{zeros}
-use Rattle.runs.proofs.Tables.{HiTurn, hi-first, hi-last, hi-choosable, lo-countable, hi-countable, hi-more}
+use Rattle.runs.proofs.Tables.{HiTurn, hi-first, hi-last, lo-countable, hi-countable, hi-more}
 use Rattle.runs.proofs.table.hi_table.Statement.{statement}
 use Rattle.runs.proofs.table.hi_table.Tie as tie
 
@@ -42,8 +42,7 @@ slice-aggregate-hi-pick-3 : tie.Need-slice-aggregate-hi-pick-3 Inv-loop μ-loop
 slice-aggregate-hi-pick-3 c = sym (c .before .before .before .before .before .loop .inv .lo-places)
 
 hi-pick-requires : tie.Need-hi-pick-requires Inv-loop μ-loop
-hi-pick-requires c κs =
-    hi-choosable _ _ _ _ _ _ _ _ (c .before .before .before .before .before .before .before .before .before .before .loop .inv)
+hi-pick-requires c κs = search needs
 
 cast-table : tie.Need-cast-table Inv-loop μ-loop
 cast-table c = search needs
@@ -54,21 +53,13 @@ mul-table c = search needs
 slice-write-table : tie.Need-slice-write-table Inv-loop μ-loop
 slice-write-table c = omega (arith, c .before .before .before .before .before .before .before .before .before .before)
 
-slice-aggregate-count : tie.Need-slice-aggregate-count Inv-loop μ-loop
-slice-aggregate-count c =
-    sym (c .before .before .before .before .before .before .before .before .before .before .before .before .loop .inv .lo-places)
-
 count-requires : tie.Need-count-requires Inv-loop μ-loop
 count-requires c κs =
-    lo-countable _ _ _ _ _ _ _ _ (c .before .before .before .before .before .before .before .before .before .before .before .before .loop .inv) _
-
-slice-aggregate-count-2 : tie.Need-slice-aggregate-count-2 Inv-loop μ-loop
-slice-aggregate-count-2 c =
-    sym (c .before .before .before .before .before .before .before .before .before .before .before .before .before .before .before .loop .inv .hi-places)
+    lo-countable _ _ _ _ _ _ _ _ (c .before .before .before .before .before .before .before .before .before .before .before .loop .inv) _
 
 count-requires-2 : tie.Need-count-requires-2 Inv-loop μ-loop
 count-requires-2 c κs =
-    hi-countable _ _ _ _ _ _ _ _ (c .before .before .before .before .before .before .before .before .before .before .before .before .before .before .before .loop .inv) _
+    hi-countable _ _ _ _ _ _ _ _ (c .before .before .before .before .before .before .before .before .before .before .before .before .loop .inv) _
 
 add-t : tie.Need-add-t Inv-loop μ-loop
 add-t c = omega (arith, c .before .before .before .before .before .before .before .before .before .before .before .before .before .before .before .before)
@@ -78,12 +69,12 @@ loop-less c = omega (arith, c .before .before .before .before .before .before .b
 
 loop-again : tie.Need-loop-again Inv-loop μ-loop
 loop-again c =
-    let n = c .before .before .before .before .before .before in
+    let n = c .before .before in
     let w = n .before .before .before .before .before .before .before .before .before .before in
     let b = w .before .before .before .before .before in
     hi-more _ _ _ _ _ _ _ _ (w .before .loop .inv) _ _ _ (b .pre .1) (w .loop-test .taken) (n .hi-pick .ensures)
-    (c .before .before .before .before .count .ensures)
-    (c .before .count2 .ensures)
+    (c .before .count .ensures)
+    (c .count2 .ensures)
 
 same-length : tie.Need-same-length Inv-loop μ-loop
 same-length c = c .before .loop .inv .same
@@ -109,9 +100,7 @@ hi-table-spec =
     cast-table
     mul-table
     slice-write-table
-    slice-aggregate-count
     count-requires
-    slice-aggregate-count-2
     count-requires-2
     add-t
     loop-less
