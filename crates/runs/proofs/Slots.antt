@@ -1,4 +1,5 @@
 -- The slots of the two tables over the columns, and the slots that each job has had in them.
+--   enabled-is        == who is enabled, by what the lists hold
 --   Left, left-..     == the first that passes a test, an entry at a time
 --   counted-..        == one slot more for a job
 --   counts            == after t slots the places are still 64, and none has had more than t
@@ -29,6 +30,12 @@ use Rattle.measures.specs.Measures.{enabledBy}
 use Rattle.columns.specs.declared.Columns.{Columns}
 use Rattle.columns.specs.Columns.{listed, byMode, viewOf}
 use Rattle.runs.specs.Slots.{enabledIn, chosen, counted}
+
+-- who is enabled, by what the lists hold
+pub enabled-is : (had loHad lo hi : List ℕ) (slot j h l a b : ℕ) (r : Bool) → h ≡ at had j 0 → l ≡ at loHad j 0 → a ≡ at lo j 0 → b ≡ at hi j 0
+    → r ≡ enabledBy h l a b (eqb slot j) → r ≡ enabledIn had loHad lo hi slot j
+unfolding enabledIn
+enabled-is had loHad lo hi slot j h l a b r e f g i x = x ∙ rw (e, f, g, i) refl
 
 -- the pick, an entry at a time -------------------------------------------------------------------------------------------------------
 

@@ -68,7 +68,13 @@ fn enables<'a>(
 ) -> bool
     ensures { λ r. ⌜ r ≡ enabledIn (now (had .entry)) (now («lo_had» .entry)) (now (lo .entry)) (now (hi .entry)) slot j ⌝ }
 {
-    is_enabled(entry(had, j), entry(lo_had, j), entry(lo, j), entry(hi, j), slot == j)
+    is_enabled(
+        entry(had, j),
+        entry(lo_had, j),
+        entry(lo, j),
+        entry(hi, j),
+        slot == j,
+    )
 }
 
 // The first enabled job of an order, 0 where there is none. An entry that names no job is passed over.

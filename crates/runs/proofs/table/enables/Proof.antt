@@ -1,7 +1,7 @@
 -- `enables` meets its contract: rules (a), (b), (c) of what the lists hold.
 -- Assumes nothing.
 use borrow.Author.Needs.{needs}
-use Rattle.runs.specs.Slots.{enabledIn}
+use Rattle.runs.proofs.Slots.{enabled-is}
 use Rattle.runs.proofs.table.enables.Statement.{statement}
 use Rattle.runs.proofs.table.enables.Tie as tie
 
@@ -21,8 +21,10 @@ is-enabled-requires : tie.Need-is-enabled-requires
 is-enabled-requires c κs = search needs
 
 returns : tie.Need-returns
-unfolding enabledIn
-returns c = cc
+returns c =
+    let b = c .before in
+    enabled-is _ _ _ _ _ _ _ _ _ _ _ (b .before .before .before .entry .ensures) (b .before .before .entry2 .ensures) (b .before .entry3 .ensures)
+    (b .entry4 .ensures) (c .is-enabled .ensures)
 
 pub enables-spec : {M : Type 1} → statement M
 enables-spec =
