@@ -11,9 +11,9 @@ use mathlib.Core.Bool.{Bool, true, false, cond, _&&_, _||_}
 use mathlib.Core.List.{List, [], _∷_, map}
 use mathlib.Core.Logic.{_⊎_, inl, inr, ⊎-elim}
 use native.Mathlib.Omega.{arith}
-use lib.Dec.{eqb, leb}
-use lib.ListN.{length, getD}
-use borrow.Author.Tests.{eq-eqb, ne-eqb, eqb-true, eqb-false, le-leb}
+use lib.Dec.{eqb}
+use lib.ListN.{getD}
+use borrow.Author.Tests.{eq-eqb, ne-eqb, eqb-true, eqb-false}
 use Rattle.model.specs.declared.Ran.{Ran}
 use Rattle.model.specs.declared.Scenario.the-variants.{Lo, Hi}
 use Rattle.model.specs.declared.Switch.{Switch}
@@ -25,8 +25,8 @@ use Rattle.model.specs.declared.Verdict.the-variants.{Fit, Unfit}
 use Rattle.model.specs.Lists.{at, from, numbers, only}
 use Rattle.model.specs.Sets.{View, members, critical}
 use Rattle.model.specs.Runs.{mark, requiredAfter, outcomeIn, switchIn, required, late, missed}
-use Rattle.model.specs.Scenarios.{places, loTimes, hiJobs, scenarios, timesOf, finishIn, lateIn, search, verdict}
-use Rattle.laws.proofs.Bools.{tests, split, and-i, and-l, and-r, and-no-r, or-l, or-cases, or-no-l, or-no-r}
+use Rattle.model.specs.Scenarios.{places, hiJobs, scenarios, timesOf, finishIn, lateIn, search, verdict}
+use Rattle.laws.proofs.Bools.{split, and-no-r, or-l, or-cases, or-no-l, or-no-r}
 use Rattle.laws.proofs.Lists.{first-zero}
 use Rattle.laws.proofs.Sums.{at-numbers}
 use Rattle.laws.proofs.Ascending.{members-ascending, first-is}

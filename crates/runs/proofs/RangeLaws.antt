@@ -16,8 +16,7 @@ use Rattle.model.specs.declared.Refusal.{Refusal}
 use Rattle.model.specs.declared.Ran.{Ran}
 use Rattle.model.specs.declared.Set.{Set}
 use Rattle.model.specs.Sets.{View, view, members, critical}
-use Rattle.model.specs.Runs.{time, limit, inRange, isRun, mark, outcomeIn, switchIn}
-use Rattle.model.specs.Scenarios.{places}
+use Rattle.model.specs.Runs.{time, limit, inRange, isRun}
 use Rattle.model.specs.Refusals.{good, isGood, applies, placed, firstOf, lowest, refusal, checkRun}
 use Rattle.model.specs.Answers.{unless, ran}
 use Rattle.laws.proofs.Bools.{split, not-i, not-i-false}
