@@ -8,6 +8,7 @@ mod lines;
 mod numbers;
 mod sets;
 
+pub use lines::between;
 pub use lines::first;
 pub use lines::line_at;
 pub use lines::next_line;

@@ -26,14 +26,29 @@ pub fn line_at(text: &[u8], from: usize) -> &[u8] {
     &text[from..end]
 }
 
-// Where the line after the one at `from` begins.
+// Where the line after the one at `from` begins, or the text's length.
 pub fn next_line(text: &[u8], from: usize) -> usize
     ensures { λ r. ⌜ (from < length (now (text .entry)) → from < r) ⌝ }
 {
     if text.len() <= from {
         return from;
     }
-    line_end(text, from) + 1
+    let end = line_end(text, from);
+    if end == text.len() {
+        return end;
+    }
+    end + 1
+}
+
+// The bytes from an index up to another; nothing where there is no such part.
+pub fn between(text: &[u8], from: usize, to: usize) -> &[u8] {
+    if to < from {
+        return &text[0..0];
+    }
+    if text.len() < to {
+        return &text[0..0];
+    }
+    &text[from..to]
 }
 
 // The first byte of a line, or 0.
