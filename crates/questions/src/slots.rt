@@ -1,4 +1,5 @@
 // The tables of a set in lent room, and parts of them.
+ghost use Prim.Native.Nat.{_≤_};
 ghost use mathlib.Core.Path.{_≡_};
 ghost use lib.ListN.{length};
 use crate::jobs::front;
@@ -24,15 +25,22 @@ fn table_line(fd: i32, begin: &[u8], word: &[u8], entries: &[u16; 4200], n: usiz
     table(fd, front(entries, n));
 }
 
-// Both tables in room of the lengths that a question gives.
-pub fn tables(fd: i32, begin: &[u8], s: Set, w: Numbers) {
-    let m = at_most(nth(w, 0), 4200);
-    let n = at_most(nth(w, 1), 4200);
+// Both tables in room of two lengths.
+fn tables_in(fd: i32, begin: &[u8], s: Set, m: usize, n: usize)
+    requires { ⌜ (m ≤ 4200) × (n ≤ 4200) ⌝ }
+{
     let mut lo = room();
     let mut hi = room();
     refusal(fd, analysis::make_tables(s, &mut lo[0..m], &mut hi[0..n]));
     table_line(fd, begin, b" LO table", &lo, m);
     table_line(fd, begin, b" HI table", &hi, n);
+}
+
+// Both tables in room of the lengths that a question gives.
+pub fn tables(fd: i32, begin: &[u8], s: Set, w: Numbers) {
+    let m = at_most(nth(w, 0), 4200);
+    let n = at_most(nth(w, 1), 4200);
+    tables_in(fd, begin, s, m, n);
 }
 
 // A part of a table from an instant, and the companion refusal.
