@@ -1,8 +1,8 @@
--- `places` meets its contract: the test tells which of the two is the smaller.
+-- `rules::orders::places` meets its contract: the test tells which of the two is the smaller.
 -- Assumes nothing.
 use native.Mathlib.Omega.{arith}
-use Rattle.columns.proofs.places.Statement.{statement}
-use Rattle.columns.proofs.places.Tie as tie
+use Rattle.rules.proofs.orders.places.Statement.{statement}
+use Rattle.rules.proofs.orders.places.Tie as tie
 
 returns : tie.Need-returns
 returns c = omega (arith, c .if1 .taken)
