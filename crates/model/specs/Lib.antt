@@ -6,3 +6,5 @@ pub mod Scenarios
 pub mod Tables
 pub mod Refusals
 pub mod Answers
+pub mod Texts
+pub mod Printed

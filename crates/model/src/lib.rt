@@ -37,6 +37,8 @@ pub struct Refusal {
 
 pub const GOOD: u8 = 0;
 
+pub const TEXT: u8 = 1;
+
 pub const COUNT: u8 = 2;
 
 pub const TIME: u8 = 3;
@@ -54,6 +56,12 @@ pub const ROOM: u8 = 8;
 pub const RUN: u8 = 9;
 
 pub const INSTANT: u8 = 10;
+
+// What the reader answers for a text: its set, all 0 where it is refused.
+pub struct Reading {
+    pub refusal: Refusal,
+    pub set: Set,
+}
 
 // A run between two slots: the mode, and for each job the slots that it has had and whether it is done.
 pub struct State {
