@@ -18,7 +18,7 @@
 use Prim.Native.Nat.{ℕ, _-_}
 use mathlib.Core.Path.{_≡_, refl}
 use mathlib.Core.Bool.{Bool, true, false, cond}
-use mathlib.Core.List.{List, [], _∷_, _++_, map}
+use mathlib.Core.List.{List, [], _∷_, _++_, map, flatMap}
 use lib.Dec.{eqb}
 use lib.IntN.{ℤ, pos, negsuc}
 use lib.ListN.{length, replicate}
@@ -48,6 +48,9 @@ use Rattle.model.specs.Refusals.{budgetWrong, checkBudget, checkSpan, ch
 use Rattle.model.specs.Refusals.{checkRoom, checkRun, checkInstant}
 use Rattle.model.specs.Answers.{unless, judged as judgedOf, finishRows as rowsOf, worsts as worstsOf, margins as marginsOf, ran as ranOf}
 use Rattle.model.specs.Answers.{tablesRefusal, loTableIn, hiTableIn}
+use Rattle.model.specs.Texts.{digit, spelled, decimal, fields, line, levelNumber, jobNumbers, orderLine, jobsOf, textOf}
+use Rattle.model.specs.Printed.{fitWord, unfitWord, refusedWord, signed, scenarioNumber, refusedText, fitText, unfitText, judgedText}
+use Rattle.model.specs.Printed.{printed}
 
 unfoldable pub jobsOfP : ℕ → List Job
 jobsOfP d = job 0 d Hi 2 4 ∷ job 1 6 Hi 1 3 ∷ job 0 6 Lo 2 2 ∷ []
@@ -129,6 +132,10 @@ pub data Clause : Type 0 where
   run : Set → List ℕ → List Outcome → Switch → ℕ → Clause
   -- who gets each slot of that run
   slots : Set → List ℕ → List ℕ → Clause
+  -- the text of the set
+  texts : Set → List ℕ → Clause
+  -- what the program prints for it
+  prints : Set → List ℕ → Clause
 
 holds : Clause → Type 0
 unfolding
@@ -142,6 +149,8 @@ unfolding
     good isGood applies placed firstOf lowest faultFrom fault checkCount timeWrong checkTime budgetWrong checkBudget checkSpan
     checkLoOrder isHiJob checkHiOrder checks refusal checkRoom checkRun checkInstant
     unless judgedOf rowsOf worstsOf marginsOf ranOf tablesRefusal loTableIn hiTableIn
+    flatMap digit spelled decimal fields line levelNumber jobNumbers orderLine jobsOf textOf
+    fitWord unfitWord refusedWord signed scenarioNumber refusedText fitText unfitText judgedText printed
 holds (checked s r) = refusal (view s) ≡ r
 holds (judged s x c) = judgedOf (view s) ≡ record { judgement = x; times = padded c }
 holds (searched s l x) = search (view s) (map scenario l) ≡ x
@@ -159,6 +168,8 @@ holds (run s c l x j) =
     (lateIn (view s) c ≡ j) ×
     (meets (view s) c ≡ eqb j 0)
 holds (slots s c l) = map (slotAt (view s .policy) c) (from 0 (span (view s))) ≡ l
+holds (texts s t) = textOf s ≡ t
+holds (prints s l) = printed (record { refusal = good; set = s }) ≡ l
 
 pub allHold : List Clause → Type 0
 allHold [] = Unit {0}
@@ -174,6 +185,38 @@ table =
     executed (P 10) (2 ∷ 1 ∷ 2 ∷ []) (answer 0 0) (5 ∷ 2 ∷ 3 ∷ []) Never ∷
     executed (P 10) (4 ∷ 1 ∷ 2 ∷ []) (answer 0 0) (7 ∷ 2 ∷ 3 ∷ []) (At 5) ∷
     executed (P 10) (4 ∷ 3 ∷ 2 ∷ []) (answer 0 0) (8 ∷ 4 ∷ 0 ∷ []) (At 2) ∷
+    -- "Set P", line by line; and a set without a HI job: "no line if its count is 0".
+    texts (P 10)
+    (51 ∷ 10 ∷
+    48 ∷ 32 ∷ 49 ∷ 48 ∷ 32 ∷ 49 ∷ 32 ∷ 50 ∷ 32 ∷ 52 ∷ 10 ∷
+    49 ∷ 32 ∷ 54 ∷ 32 ∷ 49 ∷ 32 ∷ 49 ∷ 32 ∷ 51 ∷ 10 ∷
+    48 ∷ 32 ∷ 54 ∷ 32 ∷ 48 ∷ 32 ∷ 50 ∷ 32 ∷ 50 ∷ 10 ∷
+    51 ∷ 10 ∷
+    50 ∷ 32 ∷ 51 ∷ 32 ∷ 49 ∷ 10 ∷
+    50 ∷ 10 ∷
+    50 ∷ 32 ∷ 49 ∷ 10 ∷
+    []) ∷
+    texts (alone (job 0 1 Lo 2 2))
+    (49 ∷ 10 ∷
+    48 ∷ 32 ∷ 49 ∷ 32 ∷ 48 ∷ 32 ∷ 50 ∷ 32 ∷ 50 ∷ 10 ∷
+    49 ∷ 10 ∷
+    49 ∷ 10 ∷
+    48 ∷ 10 ∷
+    []) ∷
+    -- "It prints, whole": FIT 10, 1 8 2, 2 4 2, 3 3 3.
+    prints (P 10)
+    (70 ∷ 73 ∷ 84 ∷ 32 ∷ 49 ∷ 48 ∷ 10 ∷
+    49 ∷ 32 ∷ 56 ∷ 32 ∷ 50 ∷ 10 ∷
+    50 ∷ 32 ∷ 52 ∷ 32 ∷ 50 ∷ 10 ∷
+    51 ∷ 32 ∷ 51 ∷ 32 ∷ 51 ∷ 10 ∷
+    []) ∷
+    -- "An unfit set gives `UNFIT scenario job finish` and one line of the N running times": UNFIT 2 1 8, and 4 3 2.
+    prints (P 7)
+    (85 ∷ 78 ∷ 70 ∷ 73 ∷ 84 ∷ 32 ∷ 50 ∷ 32 ∷ 49 ∷ 32 ∷ 56 ∷ 10 ∷
+    52 ∷ 32 ∷ 51 ∷ 32 ∷ 50 ∷ 10 ∷
+    []) ∷
+    -- "A refusal gives `REFUSED number place`": REFUSED 4 3.
+    prints (Q 2) (82 ∷ 69 ∷ 70 ∷ 85 ∷ 83 ∷ 69 ∷ 68 ∷ 32 ∷ 52 ∷ 32 ∷ 51 ∷ 10 ∷ []) ∷
     -- "P: LO table 3 2 3 1 1 0 0 0 0 0. HI table 0 2 2 2 1 1 1 1 0 0."
     tables (P 10) (3 ∷ 2 ∷ 3 ∷ 1 ∷ 1 ∷ 0 ∷ 0 ∷ 0 ∷ 0 ∷ 0 ∷ []) (0 ∷ 2 ∷ 2 ∷ 2 ∷ 1 ∷ 1 ∷ 1 ∷ 1 ∷ 0 ∷ 0 ∷ []) ∷
     -- "Part from 2: 2 2 1 1 1 1 0 0; from 10 empty, good; from 11 refusal 10."
@@ -278,7 +321,7 @@ pub table-holds : allHold table
 unfolding holds allHold table jobsOfP P ordered Q B idling tardy alone counted crowded
 table-holds =
     -- P
-    refl & (refl, refl) & refl & refl & refl & refl & (refl, refl) & (refl, refl) & (refl, refl) & (refl, refl) &
+    refl & (refl, refl) & refl & refl & refl & refl & refl & refl & refl & refl & refl & (refl, refl) & (refl, refl) & (refl, refl) & (refl, refl) &
     -- P with another deadline
     refl & (refl, refl) & refl & refl & refl &
     -- one LO job
