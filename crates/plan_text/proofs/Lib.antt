@@ -1,0 +1,3 @@
+-- The mathematics of the reader.
+pub mod Decimals
+pub mod Numbers
