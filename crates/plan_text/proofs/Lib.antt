@@ -1,3 +1,4 @@
 -- The mathematics of the reader.
 pub mod Decimals
 pub mod Numbers
+pub mod Scans
