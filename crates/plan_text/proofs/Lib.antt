@@ -2,3 +2,4 @@
 pub mod Decimals
 pub mod Numbers
 pub mod Scans
+pub mod Lines
