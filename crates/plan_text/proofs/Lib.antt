@@ -3,3 +3,4 @@ pub mod Decimals
 pub mod Numbers
 pub mod Scans
 pub mod Lines
+pub mod Sections
