@@ -4,3 +4,4 @@ pub mod Numbers
 pub mod Scans
 pub mod Lines
 pub mod Sections
+pub mod Accepted

@@ -5,14 +5,14 @@
 --   Within xs ms   == the numbers xs are as many as the limits ms, and each is at most its limit
 -- Assumes nothing.
 use Prim.Native.Nat.{ℕ, _≤_}
-use mathlib.Core.Path.{_≡_, refl, sym, _∙_, ap, subst}
+use mathlib.Core.Path.{_≡_, refl, sym, _∙_, ap}
 use mathlib.Core.List.{List, [], _∷_, _++_, append-assoc, append-nil}
 use native.Mathlib.Omega.{arith}
 use lib.ListN.{length}
 use borrow.Author.Tests.{ne-eqb}
 use Rattle.model.specs.declared.Set.{Set}
 use Rattle.model.specs.Texts.{decimal, fields, line, orderLine}
-use Rattle.plan_text.specs.Forms.{space, lf, Form, field, read, scan, bytes, count, row}
+use Rattle.plan_text.specs.Forms.{space, lf, Form, read, scan, bytes, count, row}
 use Rattle.plan_text.proofs.Scans.{Range, Sane, scan-byte, scan-field, byte-read, field-read}
 
 -- given bytes ------------------------------------------------------------------------------------------------------------------------
