@@ -5,3 +5,4 @@ pub mod Scans
 pub mod Lines
 pub mod Sections
 pub mod Accepted
+pub mod Reader
