@@ -6,3 +6,4 @@ pub mod Lines
 pub mod Sections
 pub mod Accepted
 pub mod Reader
+pub mod Answers
