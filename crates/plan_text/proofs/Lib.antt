@@ -7,3 +7,4 @@ pub mod Sections
 pub mod Accepted
 pub mod Reader
 pub mod Answers
+pub mod Lengths

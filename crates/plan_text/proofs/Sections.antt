@@ -49,7 +49,7 @@ pub job-back : (j : Job) → jobOf (jobNumbers j) ≡ j
 unfolding jobOf jobNumbers job
 job-back j = ap (λ l. job (j .arrival) (j .deadline) l (j .lo) (j .hi)) (level-back (j .level))
 
-level-most : (l : Level) → levelNumber l ≤ 1
+pub level-most : (l : Level) → levelNumber l ≤ 1
 unfolding levelNumber
 level-most Lo = omega arith
 level-most Hi = omega arith
@@ -87,7 +87,7 @@ job-line j xs t =
     append-assoc (line (jobNumbers j)) (jobLines xs) t
     ∙ ap (λ z. z ++ (jobLines xs ++ t)) (sym (order-line (j .arrival) (j .deadline ∷ levelNumber (j .level) ∷ j .lo ∷ j .hi ∷ [])))
 
-up-to-job : (j : Job) (xs : List Job) → upTo (flatMap jobNumbers (j ∷ xs)) ↔ (upTo (jobNumbers j) × upTo (flatMap jobNumbers xs))
+pub up-to-job : (j : Job) (xs : List Job) → upTo (flatMap jobNumbers (j ∷ xs)) ↔ (upTo (jobNumbers j) × upTo (flatMap jobNumbers xs))
 unfolding flatMap
 up-to-job j xs = up-to-append (jobNumbers j) (flatMap jobNumbers xs)
 
