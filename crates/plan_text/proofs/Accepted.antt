@@ -31,8 +31,8 @@ pub record Fits (js : List Job) (lo hi : List ℕ) : Type 0 where
   pub second : length lo ≡ length js
   pub third : length hi ≡ ones js
   pub numbers : upTo (flatMap jobNumbers js)
-  pub entries : upTo lo
-  pub critical : upTo hi
+  pub loEntries : upTo lo
+  pub hiEntries : upTo hi
 
 unfoldable pub afterLo : List Job → List ℕ → List ℕ
 afterLo js hi = line (ones js ∷ []) ++ (orderLine hi ++ [])
@@ -50,8 +50,8 @@ unfolding written afterJobs afterLo plan sections scan
 plan-scan js lo hi g =
     scan-field 1 64 lf sections (length js) (jobLines js ++ afterJobs js lo hi) range-first (g .some) (g .most)
     ∙ jobs-scan (length js) [] js _ (afterJobs js lo hi) refl (g .numbers)
-    ∙ order-scan (length js) lo _ (afterLo js hi) (g .second) (g .entries)
-    ∙ order-scan (ones js) hi _ [] (g .third) (g .critical)
+    ∙ order-scan (length js) lo _ (afterLo js hi) (g .second) (g .loEntries)
+    ∙ order-scan (ones js) hi _ [] (g .third) (g .hiEntries)
 
 done-read : (x : Set) (t : List ℕ) (s : Set) → scan (done x) t ≡ read s → (t ≡ []) × (s ≡ x)
 unfolding scan
@@ -81,8 +81,8 @@ plan-read t s h =
         second = c .2 ∙ sym (b .2);
         third = d .2;
         numbers = b .3;
-        entries = c .3;
-        critical = d .3;
+        loEntries = c .3;
+        hiEntries = d .3;
       },
       whole (a .0) (b .0) (c .0) (d .0) t (a .1) (b .1) (c .1) (d .1) (b .2) (a .4) (b .4) (c .4) (d .4) (e .0),
       e .1,
@@ -120,7 +120,7 @@ module _ (js : List Job) (lo hi : List ℕ) where
         second = g .second;
         third = g .third ∙ ap ones (sym set-jobs);
         jobs = subst (λ l. upTo (flatMap jobNumbers l)) (sym set-jobs) (g .numbers);
-        orders = subst upTo (sym (ap₂ (λ l m. l ++ m) set-lo set-hi)) (up-to-append lo hi .1 (g .entries, g .critical));
+        orders = subst upTo (sym (ap₂ (λ l m. l ++ m) set-lo set-hi)) (up-to-append lo hi .1 (g .loEntries, g .hiEntries));
         room = same-set (sym set-jobs) (sym set-lo) (sym set-hi);
       }
 
@@ -153,8 +153,8 @@ module _ (s : Set) (g : InForm s) where
         second = count-lo ∙ sym count-jobs;
         third = count-hi;
         numbers = g .jobs;
-        entries = b .0;
-        critical = b .1;
+        loEntries = b .0;
+        hiEntries = b .1;
       }
 
   -- the sections of the text, one behind the other

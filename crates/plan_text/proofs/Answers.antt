@@ -4,14 +4,14 @@
 --   one-reading    == document 01 admits one answer to a text;  reads-iff: the one by the scan
 -- Assumes nothing.
 use Prim.Native.Nat.{ℕ}
-use mathlib.Core.Path.{_≡_, refl, sym, _∙_, ap, subst}
+use mathlib.Core.Path.{_≡_, sym, _∙_, subst}
 use mathlib.Core.List.{List}
 use mathlib.Core.Logic.{inl, inr, _↔_}
 use native.Mathlib.Omega.{arith}
 use Rattle.model.specs.declared.Set.{Set}
 use Rattle.model.specs.declared.Refusal.{Refusal}
 use Rattle.model.specs.declared.Reading.{Reading}
-use Rattle.model.specs.Texts.{TextOf, Place, Accepts, Refuses, Reads}
+use Rattle.model.specs.Texts.{TextOf, Place, Reads}
 use Rattle.plan_text.specs.Forms.{read, scan, plan, answered}
 use Rattle.plan_text.proofs.Accepted.{accepts}
 use Rattle.plan_text.proofs.Reader.{reads}

@@ -2,16 +2,16 @@
 --   line-..-length   == the length of a line, of a job's line, of the lines of jobs, of an order's line
 --   short-texts      == a well-formed text has at most 2,441 bytes;  short-openings: so has what one begins with
 --   first-bytes      == the answer to a text is the answer to its first k bytes, for any k above 2,441
+--   first-4096       == so it is for the 4,096 bytes that the program reads
 -- Assumes nothing.
 use Prim.Native.Nat.{ℕ, suc, _+_, _*_, _≤_, _<_}
-use mathlib.Core.Path.{_≡_, refl, sym, _∙_, ap, subst}
+use mathlib.Core.Path.{_≡_, sym, _∙_, ap, subst}
 use mathlib.Core.List.{List, [], _∷_, _++_, flatMap}
 use mathlib.Core.Logic.{inl, inr, _↔_}
 use native.Mathlib.Omega.{arith}
 use lib.Dec.{leb}
 use lib.ListN.{length, take, length-append}
 use lib.Seq.{take-all, take-take, length-take-le}
-use Rattle.model.specs.declared.Level.{Level}
 use Rattle.model.specs.declared.Level.the-variants.{Lo, Hi}
 use Rattle.model.specs.declared.Job.{Job}
 use Rattle.model.specs.declared.Reading.{Reading}
@@ -94,8 +94,8 @@ written-length js lo hi g =
       line-last-length n,
       line-last-length k,
       job-lines-length js (g .numbers),
-      order-line-length lo (g .entries),
-      order-line-length hi (g .critical),
+      order-line-length lo (g .loEntries),
+      order-line-length hi (g .hiEntries),
       length-append (decimal n) (lf ∷ (jobLines js ++ afterJobs js lo hi)),
       length-append (jobLines js) (afterJobs js lo hi),
       length-append (line (n ∷ [])) (orderLine lo ++ afterLo js hi),
@@ -113,9 +113,8 @@ short-openings q (u, w) = omega (arith, short-texts (q ++ u) w, length-append q 
 
 -- a text beyond the bound ------------------------------------------------------------------------------------------------------------
 
-module _ (t : List ℕ) where
-  opening-end : (m : ℕ) → m ≤ length t → Opening (take m t) → m ≤ 2441
-  opening-end m h o = omega (arith, short-openings (take m t) o, length-take-le m t h)
+opening-end : (t : List ℕ) (m : ℕ) → m ≤ length t → Opening (take m t) → m ≤ 2441
+opening-end t m h o = omega (arith, short-openings (take m t) o, length-take-le m t h)
 
 module _ (k : ℕ) (far : 2441 < k) (t : List ℕ) (long : k < length t) where
   cut-length : length (take k t) ≡ k
@@ -178,6 +177,6 @@ first-bytes k far t r =
     (λ n.
     let long : k < length t = omega (tests, n) in (long-reads k far t long r, cut-reads k far t long r))
 
--- as many as the program reads
+-- "A text is at most 2,441 bytes, so the program reads no more than 4,096."
 pub first-4096 : (t : List ℕ) (r : Reading) → Reads t r ↔ Reads (take 4096 t) r
 first-4096 = first-bytes 4096 (omega arith)

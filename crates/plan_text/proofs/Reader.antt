@@ -15,7 +15,7 @@ use Rattle.model.specs.declared.Set.{Set}
 use Rattle.model.specs.Texts.{WellFormed, Opening, Place, Reads}
 use Rattle.plan_text.specs.Forms.{Scanned, read, stuck, scan, plan, answered}
 use Rattle.laws.proofs.Bools.{tests, split}
-use Rattle.plan_text.proofs.Scans.{not-read, Stuck, scan-stuck}
+use Rattle.plan_text.proofs.Scans.{not-read, scan-stuck}
 use Rattle.plan_text.proofs.Sections.{plan-sane}
 use Rattle.plan_text.proofs.Accepted.{accepts, accepted}
 
