@@ -1,10 +1,7 @@
--- The mathematics of the reader.
-pub mod Decimals
-pub mod Numbers
-pub mod Scans
-pub mod Lines
-pub mod Sections
-pub mod Accepted
-pub mod Reader
-pub mod Answers
-pub mod Lengths
+-- Laws that the proofs of this crate's functions share.
+pub mod Counts
+pub mod Room
+pub mod Rows
+pub mod Orders
+pub mod Jobs
+pub mod Replies

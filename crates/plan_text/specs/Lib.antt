@@ -1,2 +1,2 @@
--- The form of the plan text, as data that can be scanned.
-pub mod Forms
+-- What the functions find in the parts of a text.
+pub mod Parts

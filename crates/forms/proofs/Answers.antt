@@ -12,9 +12,9 @@ use Rattle.model.specs.declared.Set.{Set}
 use Rattle.model.specs.declared.Refusal.{Refusal}
 use Rattle.model.specs.declared.Reading.{Reading}
 use Rattle.model.specs.Texts.{TextOf, Place, Reads}
-use Rattle.plan_text.specs.Forms.{read, scan, plan, answered}
-use Rattle.plan_text.proofs.Accepted.{accepts}
-use Rattle.plan_text.proofs.Reader.{reads}
+use Rattle.forms.specs.Forms.{read, scan, plan, answered}
+use Rattle.forms.proofs.Accepted.{accepts}
+use Rattle.forms.proofs.Reader.{reads}
 
 pub one-set : (t : List ℕ) (s u : Set) → TextOf s t → TextOf u t → s ≡ u
 one-set t s u a b = let e : read s ≡ read u = sym (accepts t s a) ∙ accepts t u b in cc

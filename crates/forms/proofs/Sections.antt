@@ -18,10 +18,10 @@ use Rattle.model.specs.declared.Set.{Set}
 use Rattle.model.specs.Lists.{largest}
 use Rattle.model.specs.Sets.{job}
 use Rattle.model.specs.Texts.{line, orderLine, levelNumber, jobNumbers, ones}
-use Rattle.plan_text.specs.Forms.{lf, Form, read, scan, count, row, jobLimits, levelOf, jobOf, jobs, order, sections, plan}
+use Rattle.forms.specs.Forms.{lf, Form, read, scan, count, row, jobLimits, levelOf, jobOf, jobs, order, sections, plan}
 use Rattle.laws.proofs.Bools.{tests, split}
-use Rattle.plan_text.proofs.Scans.{Range, Sane}
-use Rattle.plan_text.proofs.Lines.{bytes-sane, count-scan, count-read, Within, row-sane, order-line, row-scan, row-read}
+use Rattle.forms.proofs.Scans.{Range, Sane}
+use Rattle.forms.proofs.Lines.{bytes-sane, count-scan, count-read, Within, row-sane, order-line, row-scan, row-read}
 
 unfoldable pub jobLines : List Job → List ℕ
 jobLines js = flatMap (λ j. line (jobNumbers j)) js

@@ -12,9 +12,9 @@ use native.Mathlib.Omega.{arith}
 use lib.Dec.{eqb, leb, ltb}
 use borrow.Author.Tests.{lt-ltb, le-leb, eq-eqb, ne-eqb, eqb-true}
 use Rattle.model.specs.Texts.{digit, spelled, decimal}
-use Rattle.plan_text.specs.Forms.{Piece, got, short, begins, grows, more, number}
+use Rattle.forms.specs.Forms.{Piece, got, short, begins, grows, more, number}
 use Rattle.laws.proofs.Bools.{tests, split, and-l, and-r, and-i}
-use Rattle.plan_text.proofs.Decimals.{decimal-digit, decimal-longer}
+use Rattle.forms.proofs.Decimals.{decimal-digit, decimal-longer}
 
 -- one byte ---------------------------------------------------------------------------------------------------------------------------
 

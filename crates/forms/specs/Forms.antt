@@ -2,11 +2,11 @@
 --   Piece             == what reading one part gives: a number and what is left behind it, or what is left where it stuck
 --   begins, grows     == a byte may be the first digit of a number; it may go on with one
 --   more, number      == a number read on; a number read, with the byte behind it
---   Row, row          == the numbers of a line read, the largest that each may be given
---   Given, given      == these bytes read
 --   Form              == done with a set; a given byte, then the rest; a number, then the rest given the number
 --   scan f t          == the set that the text t gives by the form f, or what is left of t where it stuck
---   plan              == the form of a plan text
+--   bytes, count      == given bytes, then the rest; a count that is determined, on its own line
+--   row, jobs, order  == a line of numbers, the largest that each may be given; the lines of jobs; an order after its count
+--   sections, plan    == the form behind the first count; the form of a plan text
 --   answered t x      == the reader's answer to the text t, where its scan gives x
 use Prim.Native.Nat.{ℕ, zero, suc, _+_, _-_, _*_}
 use mathlib.Core.Bool.{Bool, cond, _&&_}

@@ -19,11 +19,11 @@ use Rattle.model.specs.declared.Set.{Set}
 use Rattle.model.specs.Lists.{cut}
 use Rattle.model.specs.Sets.{blank, set, orderOf}
 use Rattle.model.specs.Texts.{decimal, line, jobNumbers, orderLine, jobsOf, textOf, ones, InForm, TextOf}
-use Rattle.plan_text.specs.Forms.{lf, done, read, scan, sections, plan}
+use Rattle.forms.specs.Forms.{lf, done, read, scan, sections, plan}
 use Rattle.laws.proofs.Pigeonhole.{length-cut}
-use Rattle.plan_text.proofs.Scans.{not-read, scan-field, field-read}
-use Rattle.plan_text.proofs.Lines.{line-last}
-use Rattle.plan_text.proofs.Sections.{jobLines, upTo, up-to-append, jobs-scan, jobs-read, order-scan, order-read, range-first}
+use Rattle.forms.proofs.Scans.{not-read, scan-field, field-read}
+use Rattle.forms.proofs.Lines.{line-last}
+use Rattle.forms.proofs.Sections.{jobLines, upTo, up-to-append, jobs-scan, jobs-read, order-scan, order-read, range-first}
 
 pub record Fits (js : List Job) (lo hi : List ℕ) : Type 0 where
   pub some : 1 ≤ length js

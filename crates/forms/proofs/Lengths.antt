@@ -18,12 +18,12 @@ use Rattle.model.specs.declared.Reading.{Reading}
 use Rattle.model.specs.Lists.{largest}
 use Rattle.model.specs.Texts.{decimal, fields, line, levelNumber, jobNumbers, orderLine, jobsOf, ones, WellFormed, Opening, Place, Reads}
 use Rattle.model.specs.Sets.{orderOf}
-use Rattle.plan_text.specs.Forms.{lf}
+use Rattle.forms.specs.Forms.{lf}
 use Rattle.laws.proofs.Bools.{tests, split}
-use Rattle.plan_text.proofs.Decimals.{decimal-one, decimal-count, decimal-most}
-use Rattle.plan_text.proofs.Lines.{order-line}
-use Rattle.plan_text.proofs.Sections.{jobLines, upTo, level-most, up-to-job}
-use Rattle.plan_text.proofs.Accepted.{Fits, afterLo, afterJobs, written, form-fits, text-written}
+use Rattle.forms.proofs.Decimals.{decimal-one, decimal-count, decimal-most}
+use Rattle.forms.proofs.Lines.{order-line}
+use Rattle.forms.proofs.Sections.{jobLines, upTo, level-most, up-to-job}
+use Rattle.forms.proofs.Accepted.{Fits, afterLo, afterJobs, written, form-fits, text-written}
 
 line-last-length : (x : ℕ) → length (line (x ∷ [])) ≡ suc (length (decimal x))
 unfolding line fields

@@ -12,8 +12,8 @@ use lib.ListN.{length}
 use borrow.Author.Tests.{ne-eqb}
 use Rattle.model.specs.declared.Set.{Set}
 use Rattle.model.specs.Texts.{decimal, fields, line, orderLine}
-use Rattle.plan_text.specs.Forms.{space, lf, Form, read, scan, bytes, count, row}
-use Rattle.plan_text.proofs.Scans.{Range, Sane, scan-byte, scan-field, byte-read, field-read}
+use Rattle.forms.specs.Forms.{space, lf, Form, read, scan, bytes, count, row}
+use Rattle.forms.proofs.Scans.{Range, Sane, scan-byte, scan-field, byte-read, field-read}
 
 -- given bytes ------------------------------------------------------------------------------------------------------------------------
 

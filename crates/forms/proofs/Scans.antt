@@ -14,9 +14,9 @@ use lib.Dec.{eqb}
 use borrow.Author.Tests.{eq-eqb, eqb-true}
 use Rattle.model.specs.declared.Set.{Set}
 use Rattle.model.specs.Texts.{decimal}
-use Rattle.plan_text.specs.Forms.{Piece, got, short, number, then, Form, done, byte, field, Scanned, read, stuck, scan}
+use Rattle.forms.specs.Forms.{Piece, got, short, number, then, Form, done, byte, field, Scanned, read, stuck, scan}
 use Rattle.laws.proofs.Bools.{split}
-use Rattle.plan_text.proofs.Numbers.{number-read, number-got, Sticks, number-short}
+use Rattle.forms.proofs.Numbers.{number-read, number-got, Sticks, number-short}
 
 pub record Range (least most c : ℕ) : Type 0 where
   pub low : least ≤ 1

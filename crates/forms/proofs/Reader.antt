@@ -13,11 +13,11 @@ use lib.ListN.{length, take, length-append}
 use lib.Seq.{take-append-seam, take-append-add}
 use Rattle.model.specs.declared.Set.{Set}
 use Rattle.model.specs.Texts.{WellFormed, Opening, Place, Reads}
-use Rattle.plan_text.specs.Forms.{Scanned, read, stuck, scan, plan, answered}
+use Rattle.forms.specs.Forms.{Scanned, read, stuck, scan, plan, answered}
 use Rattle.laws.proofs.Bools.{tests, split}
-use Rattle.plan_text.proofs.Scans.{not-read, scan-stuck}
-use Rattle.plan_text.proofs.Sections.{plan-sane}
-use Rattle.plan_text.proofs.Accepted.{accepts, accepted}
+use Rattle.forms.proofs.Scans.{not-read, scan-stuck}
+use Rattle.forms.proofs.Sections.{plan-sane}
+use Rattle.forms.proofs.Accepted.{accepts, accepted}
 
 pub accepted-iff : (t : List ℕ) → WellFormed t ↔ ((s : Set) × (scan plan t ≡ read s))
 accepted-iff t = (λ w. (w .0, accepts t (w .0) (w .1)), λ h. (h .0, accepted t (h .0) (h .1)))

@@ -1,0 +1,2 @@
+-- What the functions find at a cursor of the text.
+pub mod Cursors

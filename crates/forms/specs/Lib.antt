@@ -1,0 +1,2 @@
+-- The form of the plan text, as data that can be scanned.
+pub mod Forms

@@ -1,0 +1,2 @@
+-- The answers of the reader.
+pub mod Readings
