@@ -1,0 +1,2 @@
+-- What is written so far, as a value.
+pub mod Pages
