@@ -1,0 +1,4 @@
+-- Laws on the lines that are printed, and the proofs of the functions.
+pub mod LineLaws
+pub mod JobLaws
+pub mod PageLaws

@@ -1,0 +1,2 @@
+-- The lines that the program prints.
+pub mod Lines
