@@ -2,6 +2,7 @@
 --   put-append     == two texts are put one after the other
 --   put-page       == what is put on a page stands behind what it holds
 --   put-turn       == one turn of a loop over the bytes of a text;  put-end: its end
+--   page-whole     == a page holds the whole of a text that has room on it
 -- Assumes nothing.
 use Prim.Native.Nat.{ℕ, suc, _+_, _-_, _≤_, _<_, min}
 use mathlib.Core.Path.{_≡_, refl, sym, _∙_, ap}
@@ -10,7 +11,7 @@ use native.Mathlib.Omega.{arith}
 use native.Mathlib.Numerals.{add-one}
 use lib.Dec.{ltb}
 use lib.ListN.{length, take, drop, set, getD, replicate, length-append, length-take, drop-of-length-le}
-use lib.Seq.{take-all, take-append-le, set-at, drop-cons}
+use lib.Seq.{take-all, take-append-seam, take-append-le, set-at, drop-cons}
 use borrow.Author.Tests.{lt-ltb, le-ltb}
 use Rattle.laws.proofs.Bools.{tests, split}
 use Rattle.pages.specs.declared.Page.{Page}
@@ -69,3 +70,12 @@ put-turn p q r t i h n e =
 pub put-end : (p q : Page) (t : List ℕ) (i : ℕ) → put q (drop i t) ≡ put p t → length t ≤ i → q ≡ put p t
 unfolding put
 put-end p q t i h n = rw (drop-of-length-le t {i = i} n) at h
+
+pub page-whole : (l : List ℕ) → length l ≤ 1024 → take (page l .length) (page l .bytes) ≡ l
+unfolding page size
+page-whole l h = start 1024 l h
+  where
+    start : (k : ℕ) (l : List ℕ) → length l ≤ k → take (min k (length l)) (take k l ++ replicate (k - length l) 0) ≡ l
+    start k l h =
+        let e : min k (length l) ≡ length l = omega arith in
+        rw (e, take-all k l h) (take-append-seam l (replicate (k - length l) 0))

@@ -2,3 +2,6 @@
 pub mod LineLaws
 pub mod JobLaws
 pub mod PageLaws
+pub mod Lengths
+pub mod Bounds
+pub mod Whole
