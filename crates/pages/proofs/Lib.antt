@@ -1,3 +1,5 @@
--- Laws on pages and numerals, and the proofs of the writers.
+-- Laws on pages, numerals and lines, and the proofs of the writers.
 pub mod Puts
 pub mod Numerals
+pub mod LineLaws
+pub mod Lengths

@@ -1,2 +1,3 @@
--- What is written so far, as a value.
+-- What is to be printed, as a value, and its lines.
 pub mod Pages
+pub mod Lines

@@ -1,4 +1,4 @@
-// Pages: what is to be printed, as a value, and the writers that put bytes, numbers and margins behind what a page holds.
+// Pages: what is to be printed, as a value; the writers that put bytes, numbers and margins behind what a page holds; and the lines that stand by themselves.
 // Every function is total: what finds no room on the page is left out.
 ghost use mathlib.Core.Path.{_≡_};
 ghost use mathlib.Core.List.{[], _∷_};
@@ -6,6 +6,12 @@ ghost use lib.IntN.{pos, _-ℤ_};
 ghost use Rattle.model.specs.Texts.{decimal};
 ghost use Rattle.model.specs.Printed.{signed};
 ghost use Rattle.pages.specs.Pages.{page, put};
+
+mod lines;
+
+pub use lines::miss_page;
+pub use lines::refused_page;
+pub use lines::with_job;
 
 // The first `length` bytes are to be printed; the others are 0.
 pub struct Page {

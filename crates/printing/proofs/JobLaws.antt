@@ -28,8 +28,9 @@ use Rattle.laws.proofs.Checks.{checks-pass, counts-right}
 use Rattle.pages.specs.declared.Page.{Page}
 use Rattle.pages.specs.Pages.{put}
 use Rattle.pages.proofs.Puts.{put-append}
-use Rattle.printing.specs.Lines.{rest, jobLine, jobLines, timesLeft}
-use Rattle.printing.proofs.LineLaws.{put-first, put-next}
+use Rattle.pages.specs.Lines.{rest, jobLine}
+use Rattle.printing.specs.Lines.{jobLines, timesLeft}
+use Rattle.pages.proofs.LineLaws.{put-first, put-next}
 
 place-at : (v : View) (f : ℕ → ℕ) (i : ℕ) → i < 64 → v .policy .part (1 + i) ≡ true → getD (places v f) i 0 ≡ f (i + 1)
 unfolding places numbers

@@ -1,7 +1,5 @@
 -- Laws on the lines that are printed, and the proofs of the functions.
-pub mod LineLaws
 pub mod JobLaws
 pub mod PageLaws
-pub mod Lengths
 pub mod Bounds
 pub mod Whole

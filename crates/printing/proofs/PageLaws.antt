@@ -29,8 +29,9 @@ use Rattle.laws.proofs.Bools.{split}
 use Rattle.pages.specs.declared.Page.{Page}
 use Rattle.pages.specs.Pages.{page, put}
 use Rattle.pages.proofs.Puts.{put-append, put-page}
-use Rattle.printing.specs.Lines.{jobLine, jobLines, missLine}
-use Rattle.printing.proofs.LineLaws.{put-two, on-empty}
+use Rattle.pages.specs.Lines.{jobLine, missLine}
+use Rattle.printing.specs.Lines.{jobLines}
+use Rattle.pages.proofs.LineLaws.{put-two, on-empty}
 use Rattle.printing.proofs.JobLaws.{good-members}
 
 pub fit-answer : (v : View) (e a b h r : Page) (n : ℕ) → e ≡ page [] → a ≡ put e fitWord → n ≡ span v → b ≡ put a (32 ∷ decimal n)

@@ -34,8 +34,8 @@ use Rattle.laws.proofs.Checks.{passes-sound}
 use Rattle.pages.specs.declared.Page.{Page}
 use Rattle.pages.specs.Pages.{page}
 use Rattle.pages.proofs.Puts.{page-whole}
-use Rattle.printing.specs.Lines.{jobLine, missLine}
-use Rattle.printing.proofs.Lengths.{line-most, lines-most, refused-most, job-most, head-most, miss-most}
+use Rattle.pages.specs.Lines.{jobLine, missLine}
+use Rattle.pages.proofs.Lengths.{line-most, lines-most, refused-most, job-most, head-most, miss-most}
 use Rattle.printing.proofs.Bounds.{Short, Small, refusal-short, member-most, members-most, worst-most, times-most, Within, search-within, scenarios-most}
 
 -- what is printed ------------------------------------------------------------------------------------------------------------------------

@@ -9,7 +9,6 @@ mod lines;
 
 use analysis::judge;
 use lines::fit_page;
-use lines::refused_page;
 use lines::unfit_page;
 use model::GOOD;
 use model::Judgement;
@@ -17,6 +16,7 @@ use model::Reading;
 use model::Set;
 use model::Verdict;
 use pages::Page;
+use pages::refused_page;
 
 // The answer to a set that was read: what refuses it, or its verdict.
 fn judged_page(s: Set) -> Page

@@ -1,4 +1,4 @@
-// The answers, line by line.
+// The answers to a set that passes the checks, line by line.
 ghost use mathlib.Core.Path.{_≡_};
 ghost use mathlib.Core.Bool.{true};
 ghost use mathlib.Core.List.{map};
@@ -8,46 +8,21 @@ ghost use Rattle.model.specs.Sets.{view, members};
 ghost use Rattle.model.specs.Refusals.{isGood, refusal};
 ghost use Rattle.model.specs.Answers.{worsts as worstsOf};
 ghost use Rattle.model.specs.Texts.{line};
-ghost use Rattle.model.specs.Printed.{refusedText, fitText, unfitText, scenarioNumber};
+ghost use Rattle.model.specs.Printed.{fitText, unfitText};
 ghost use Rattle.pages.specs.Pages.{page, put};
-ghost use Rattle.printing.specs.Lines.{jobLine, jobLines, missLine};
+ghost use Rattle.printing.specs.Lines.{jobLines};
 use analysis::worst_finishes;
 use checks::span_of;
 use model::Miss;
-use model::Refusal;
-use model::Scenario;
 use model::Set;
 use pages::Page;
 use pages::empty_page;
+use pages::miss_page;
 use pages::with_byte;
 use pages::with_bytes;
 use pages::with_decimal;
 use pages::with_field;
-use pages::with_margin;
-
-fn wide(x: u16) -> u64
-    ensures { λ r. ⌜ r ≡ x ⌝ }
-{
-    x as u64
-}
-
-// "A refusal gives `REFUSED number place`."
-pub fn refused_page(r: Refusal) -> Page
-    ensures { λ p. ⌜ p ≡ page (refusedText r) ⌝ }
-{
-    let word = with_bytes(empty_page(), b"REFUSED");
-    with_byte(with_field(with_field(word, r.number as u64), r.place), 10)
-}
-
-// The line of one job: "its number, worst finish and margin".
-fn with_job(p: Page, job: u64, worst: u64, deadline: u64) -> Page
-    ensures { λ r. ⌜ r ≡ put p (jobLine job worst deadline) ⌝ }
-{
-    with_byte(
-        with_margin(with_field(with_decimal(p, job), worst), deadline, worst),
-        10,
-    )
-}
+use pages::with_job;
 
 // The lines of all jobs.
 fn with_jobs(p: Page, s: Set, worsts: [u16; 64]) -> Page
@@ -59,7 +34,7 @@ fn with_jobs(p: Page, s: Set, worsts: [u16; 64]) -> Page
     let mut i: usize = 0;
     while i < n {
         let job = s.jobs[i];
-        let next = with_job(q, (i + 1) as u64, wide(worsts[i]), wide(job.deadline));
+        let next = with_job(q, (i + 1) as u64, worsts[i], job.deadline);
         q = next;
         i += 1;
     }
@@ -76,26 +51,10 @@ pub fn fit_page(s: Set) -> Page
     with_jobs(head, s, worst_finishes(s))
 }
 
-fn scenario_number(x: Scenario) -> u64
-    ensures { λ r. ⌜ r ≡ scenarioNumber x ⌝ }
+fn wide(x: u16) -> u64
+    ensures { λ r. ⌜ r ≡ x ⌝ }
 {
-    match x {
-        Scenario::Lo => 0,
-        Scenario::Hi(job) => wide(job),
-    }
-}
-
-// "`UNFIT scenario job finish`"
-fn miss_page(m: Miss) -> Page
-    ensures { λ r. ⌜ r ≡ page (missLine m) ⌝ }
-{
-    let scenario = m.scenario;
-    let word = with_bytes(empty_page(), b"UNFIT");
-    let failing = with_field(word, scenario_number(scenario));
-    with_byte(
-        with_field(with_field(failing, wide(m.job)), wide(m.finish)),
-        10,
-    )
+    x as u64
 }
 
 // "One line of the N running times in job order."

@@ -2,8 +2,8 @@
 -- Assumes nothing.
 use Prim.Native.Nat.{_-_, _≤_}
 use mathlib.Core.Path.{_∙_, ap}
-use lib.ListN.{getD}
 use native.Mathlib.Omega.{arith}
+use lib.ListN.{getD}
 use Rattle.model.specs.Sets.{view, members, blank, job}
 use Rattle.pages.specs.Pages.{put}
 use Rattle.printing.specs.Lines.{jobLines}
@@ -31,17 +31,11 @@ element-copy-out-job c = search needs
 add-with-job : tie.Need-add-with-job Inv-loop μ-loop
 add-with-job c = search needs
 
-mul-wide : tie.Need-mul-wide Inv-loop μ-loop
-mul-wide c = search needs
+mul-with-job : tie.Need-mul-with-job Inv-loop μ-loop
+mul-with-job c = search needs
 
-array-read-wide : tie.Need-array-read-wide Inv-loop μ-loop
-array-read-wide c = search needs
-
-wide-requires : tie.Need-wide-requires Inv-loop μ-loop
-wide-requires c κs = search needs
-
-wide-requires-2 : tie.Need-wide-requires-2 Inv-loop μ-loop
-wide-requires-2 c κs = search needs
+array-read-with-job : tie.Need-array-read-with-job Inv-loop μ-loop
+array-read-with-job c = search needs
 
 with-job-requires : tie.Need-with-job-requires Inv-loop μ-loop
 with-job-requires c κs = search needs
@@ -55,14 +49,14 @@ loop-less c = omega arith
 loop-again : tie.Need-loop-again Inv-loop μ-loop
 unfolding blank job
 loop-again c =
-    let l = c .before .before .before .before .before in
+    let l = c .before .before .before in
     let s = l .before .args .t2 in
     let i = l .loop .i in
-    let h = c .before .before .before .before .loop-test .taken in (
+    let h = c .before .before .loop-test .taken in (
       omega arith,
       l .loop .inv .1,
-      jobs-turn _ _ _ _ _ h (l .loop .inv .2) _ _ (c .before .before .wide .ensures ∙ ap (λ w. getD w i 0) (l .before .pre .1) ∙ worst-at s (l .before .pre .0) i h)
-          (c .before .wide2 .ensures ∙ deadline-at s i h) (c .with-job .ensures),
+      jobs-turn _ _ _ _ _ h (l .loop .inv .2) _ _ (ap (λ w. getD w i 0) (l .before .pre .1) ∙ worst-at s (l .before .pre .0) i h) (deadline-at s i h)
+          (c .with-job .ensures),
     )
 
 returns : tie.Need-returns Inv-loop μ-loop
@@ -78,10 +72,8 @@ with-jobs-spec =
     mul-job
     element-copy-out-job
     add-with-job
-    mul-wide
-    array-read-wide
-    wide-requires
-    wide-requires-2
+    mul-with-job
+    array-read-with-job
     with-job-requires
     add-i
     loop-less

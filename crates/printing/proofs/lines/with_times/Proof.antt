@@ -6,7 +6,7 @@ use native.Mathlib.Omega.{arith}
 use Rattle.model.specs.Texts.{decimal}
 use Rattle.pages.specs.Pages.{put}
 use Rattle.printing.specs.Lines.{timesLeft}
-use Rattle.printing.proofs.LineLaws.{number}
+use Rattle.pages.proofs.LineLaws.{number}
 use Rattle.printing.proofs.JobLaws.{TimesLeft, times-start, times-turn, times-end}
 use borrow.Author.Needs.{needs}
 use Rattle.printing.proofs.lines.with_times.Statement.{statement}

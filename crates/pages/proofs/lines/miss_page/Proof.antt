@@ -1,11 +1,11 @@
 -- `miss_page` meets its contract: one line of four fields.
 -- Assumes nothing.
 use Rattle.model.specs.Printed.{fitWord, unfitWord}
-use Rattle.printing.specs.Lines.{missLine}
-use Rattle.printing.proofs.LineLaws.{number, put-four, on-empty}
+use Rattle.pages.specs.Lines.{missLine}
+use Rattle.pages.proofs.LineLaws.{number, put-four, on-empty}
 use borrow.Author.Needs.{needs}
-use Rattle.printing.proofs.lines.miss_page.Statement.{statement}
-use Rattle.printing.proofs.lines.miss_page.Tie as tie
+use Rattle.pages.proofs.lines.miss_page.Statement.{statement}
+use Rattle.pages.proofs.lines.miss_page.Tie as tie
 
 empty-page-requires : tie.Need-empty-page-requires
 empty-page-requires c κs = search needs
@@ -22,14 +22,14 @@ scenario-number-requires c κs = search needs
 with-field-requires : tie.Need-with-field-requires
 with-field-requires c κs = search needs
 
-wide-requires : tie.Need-wide-requires
-wide-requires c κs = search needs
+cast-with-field : tie.Need-cast-with-field
+cast-with-field c = search needs
 
 with-field-requires-2 : tie.Need-with-field-requires-2
 with-field-requires-2 c κs = search needs
 
-wide-requires-2 : tie.Need-wide-requires-2
-wide-requires-2 c κs = search needs
+cast-with-field-2 : tie.Need-cast-with-field-2
+cast-with-field-2 c = search needs
 
 with-field-requires-3 : tie.Need-with-field-requires-3
 with-field-requires-3 c κs = search needs
@@ -43,8 +43,7 @@ returns c =
     on-empty _ _ _ (c .before .before .before .before .before .before .before .before .before .empty-page .ensures)
     (put-four _ _ _ _ _ _ (c .before .before .before .before .before .before .before .with-bytes .ensures)
     (number _ _ _ _ (c .before .before .before .before .before .before .scenario-number .ensures) (c .before .before .before .before .before .with-field .ensures)) _ _
-    (number _ _ _ _ (c .before .before .before .before .wide .ensures) (c .before .before .before .with-field2 .ensures)) _ _
-    (number _ _ _ _ (c .before .before .wide2 .ensures) (c .before .with-field3 .ensures)) (c .with-byte .ensures))
+    (c .before .before .before .with-field2 .ensures) _ _ (c .before .with-field3 .ensures) (c .with-byte .ensures))
 
 pub miss-page-spec : {M : Type 1} → statement M
 miss-page-spec =
@@ -55,9 +54,9 @@ miss-page-spec =
     with-bytes-requires
     scenario-number-requires
     with-field-requires
-    wide-requires
+    cast-with-field
     with-field-requires-2
-    wide-requires-2
+    cast-with-field-2
     with-field-requires-3
     with-byte-requires
     returns)

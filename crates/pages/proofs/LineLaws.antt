@@ -9,10 +9,10 @@ use Prim.Native.Nat.{ℕ}
 use mathlib.Core.Path.{_≡_, refl, sym, _∙_, ap}
 use mathlib.Core.List.{List, [], _∷_, _++_}
 use Rattle.model.specs.Texts.{decimal, fields}
 use Rattle.pages.specs.declared.Page.{Page}
 use Rattle.pages.specs.Pages.{page, put}
 use Rattle.pages.proofs.Puts.{put-append, put-page}
-use Rattle.printing.specs.Lines.{rest}
+use Rattle.pages.specs.Lines.{rest}
 
 pub number : (p q : Page) (m n : ℕ) → m ≡ n → q ≡ put p (32 ∷ decimal m) → q ≡ put p (32 ∷ decimal n)
 number p q m n e f = f ∙ ap (λ x. put p (32 ∷ decimal x)) e

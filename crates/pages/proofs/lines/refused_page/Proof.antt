@@ -1,10 +1,10 @@
 -- `refused_page` meets its contract: one line of three fields.
 -- Assumes nothing.
 use Rattle.model.specs.Printed.{refusedWord, refusedText}
-use Rattle.printing.proofs.LineLaws.{put-three, on-empty}
+use Rattle.pages.proofs.LineLaws.{put-three, on-empty}
 use borrow.Author.Needs.{needs}
-use Rattle.printing.proofs.lines.refused_page.Statement.{statement}
-use Rattle.printing.proofs.lines.refused_page.Tie as tie
+use Rattle.pages.proofs.lines.refused_page.Statement.{statement}
+use Rattle.pages.proofs.lines.refused_page.Tie as tie
 
 empty-page-requires : tie.Need-empty-page-requires
 empty-page-requires c κs = search needs
@@ -15,8 +15,8 @@ slice-aggregate-with-bytes c = search needs
 with-bytes-requires : tie.Need-with-bytes-requires
 with-bytes-requires c κs = search needs
 
-cast-with-field : tie.Need-cast-with-field
-cast-with-field c = search needs
+cast-number : tie.Need-cast-number
+cast-number c = search needs
 
 with-field-requires : tie.Need-with-field-requires
 with-field-requires c κs = search needs
@@ -40,7 +40,7 @@ refused-page-spec =
     empty-page-requires
     slice-aggregate-with-bytes
     with-bytes-requires
-    cast-with-field
+    cast-number
     with-field-requires
     with-field-requires-2
     with-byte-requires

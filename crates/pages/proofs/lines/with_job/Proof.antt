@@ -1,10 +1,10 @@
 -- `with_job` meets its contract: one line of three fields.
 -- Assumes nothing.
-use Rattle.printing.specs.Lines.{jobLine}
-use Rattle.printing.proofs.LineLaws.{put-three}
+use Rattle.pages.specs.Lines.{jobLine}
+use Rattle.pages.proofs.LineLaws.{put-three}
 use borrow.Author.Needs.{needs}
-use Rattle.printing.proofs.lines.with_job.Statement.{statement}
-use Rattle.printing.proofs.lines.with_job.Tie as tie
+use Rattle.pages.proofs.lines.with_job.Statement.{statement}
+use Rattle.pages.proofs.lines.with_job.Tie as tie
 
 with-decimal-requires : tie.Need-with-decimal-requires
 with-decimal-requires c κs = search needs

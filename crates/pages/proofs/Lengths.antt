@@ -21,9 +21,9 @@ use Rattle.model.specs.Texts.{digit, decimal, fields, line}
 use Rattle.model.specs.Printed.{fitWord, unfitWord, refusedWord, signed, scenarioNumber, refusedText}
 use Rattle.laws.proofs.Bools.{tests, split}
 use Rattle.laws.proofs.Lists.{mem-head, mem-tail}
 use Rattle.pages.proofs.Numerals.{decimal-one, decimal-more, signed-minus}
-use Rattle.printing.specs.Lines.{rest, jobLine, missLine}
-use Rattle.printing.proofs.LineLaws.{fields-rest}
+use Rattle.pages.specs.Lines.{rest, jobLine, missLine}
+use Rattle.pages.proofs.LineLaws.{fields-rest}
 
 one-digit : (n : ℕ) → n < 10 → length (decimal n) ≡ 1
 one-digit n h = ap length (decimal-one n h)
