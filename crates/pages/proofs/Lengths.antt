@@ -1,5 +1,5 @@
 -- How long a number, a margin and a line are.
---   decimal-most    == a number below a power of ten has no more digits than the power says
+--   digits-most    == a number below a power of ten has no more digits than the power says
 --   signed-most     == a margin takes at most 5 bytes, where the deadline has 16 bits and the worst finish 4 digits
 --   fields-length   == a line, by its fields;  line-most: a line of numbers of 16 bits
 --   lines-most      == lines of at most 14 bytes each
@@ -21,32 +21,33 @@ use Rattle.model.specs.Texts.{digit, decimal, fields, line}
 use Rattle.model.specs.Printed.{fitWord, unfitWord, refusedWord, signed, scenarioNumber, refusedText}
 use Rattle.laws.proofs.Bools.{tests, split}
 use Rattle.laws.proofs.Lists.{mem-head, mem-tail}
-use Rattle.pages.proofs.Numerals.{decimal-one, decimal-more, signed-minus}
+use Rattle.forms.proofs.Decimals.{decimal-digit, decimal-of}
+use Rattle.pages.proofs.Numerals.{signed-minus}
 use Rattle.pages.specs.Lines.{rest, jobLine, missLine}
 use Rattle.pages.proofs.LineLaws.{fields-rest}
 
 one-digit : (n : ℕ) → n < 10 → length (decimal n) ≡ 1
-one-digit n h = ap length (decimal-one n h)
+one-digit n h = ap length (decimal-digit n h)
 
 more-digits : (n : ℕ) → 10 ≤ n → length (decimal n) ≡ length (decimal (n / 10)) + 1
-more-digits n h = ap length (decimal-more n h) ∙ length-append (decimal (n / 10)) (digit (n % 10) ∷ [])
+more-digits n h = ap length (decimal-of n h) ∙ length-append (decimal (n / 10)) (digit (n % 10) ∷ [])
 
-pub decimal-most : (k n : ℕ) → n < 10 ^ suc k → length (decimal n) ≤ suc k
-decimal-most zero n h = omega (arith, one-digit n (omega arith))
-decimal-most (suc k) n h =
+pub digits-most : (k n : ℕ) → n < 10 ^ suc k → length (decimal n) ≤ suc k
+digits-most zero n h = omega (arith, one-digit n (omega arith))
+digits-most (suc k) n h =
     split (ltb n 10)
     (λ p. omega (tests, p, one-digit n (omega (tests, p))))
-    (λ p. omega (tests, p, more-digits n (omega (tests, p)), decimal-most k (n / 10) (omega (arith, h, pow-suc 10 (suc k)))))
+    (λ p. omega (tests, p, more-digits n (omega (tests, p)), digits-most k (n / 10) (omega (arith, h, pow-suc 10 (suc k)))))
 
 pub signed-most : (d w : ℕ) → d ≤ 65535 → w < 10000 → length (signed (pos d -ℤ pos w)) ≤ 5
 signed-most d w p q =
     split (ltb d w)
     (λ h.
     let e : signed (pos d -ℤ pos w) ≡ 45 ∷ decimal (w - d) = rw h at (signed-minus d w) in
-    omega (arith, ap length e, decimal-most 3 (w - d) (omega arith)))
+    omega (arith, ap length e, digits-most 3 (w - d) (omega arith)))
     (λ h.
     let e : signed (pos d -ℤ pos w) ≡ decimal (d - w) = rw h at (signed-minus d w) in
-    omega (arith, ap length e, decimal-most 4 (d - w) (omega arith)))
+    omega (arith, ap length e, digits-most 4 (d - w) (omega arith)))
 
 rest-length : (x : List ℕ) (l : List (List ℕ)) → length (rest (x ∷ l)) ≡ 1 + length x + length (rest l)
 unfolding rest
@@ -62,13 +63,13 @@ fields-length x l = ap length (fields-rest x l) ∙ length-append x (rest l)
 rest-most : (f : ℕ → ℕ) (l : List ℕ) → ((j : ℕ) → f j ≤ 65535) → length (rest (map decimal (map f l))) ≤ 6 * length l + 1
 rest-most f [] h = omega (arith, rest-end)
 rest-most f (x ∷ l) h =
-    let e = h x in omega (arith, rest-length (decimal (f x)) (map decimal (map f l)), decimal-most 4 (f x) (omega arith), rest-most f l h)
+    let e = h x in omega (arith, rest-length (decimal (f x)) (map decimal (map f l)), digits-most 4 (f x) (omega arith), rest-most f l h)
 
 pub line-most : (f : ℕ → ℕ) (l : List ℕ) → ((j : ℕ) → f j ≤ 65535) → length (line (map f l)) ≤ 6 * length l + 1
 unfolding line fields
 line-most f [] h = omega arith
 line-most f (x ∷ l) h =
-    let e = h x in omega (arith, fields-length (decimal (f x)) (map decimal (map f l)), decimal-most 4 (f x) (omega arith), rest-most f l h)
+    let e = h x in omega (arith, fields-length (decimal (f x)) (map decimal (map f l)), digits-most 4 (f x) (omega arith), rest-most f l h)
 
 pub lines-most : (f : ℕ → List ℕ) (l : List ℕ) → ((j : ℕ) → mem j l ≡ true → length (f j) ≤ 14) → length (flatMap f l) ≤ 14 * length l
 unfolding flatMap
@@ -87,8 +88,8 @@ refused-most r p q =
       rest-length n (m ∷ []),
       rest-length m [],
       rest-end,
-      decimal-most 2 (r .number) p,
-      decimal-most 19 (r .place) q,
+      digits-most 2 (r .number) p,
+      digits-most 19 (r .place) q,
     )
 
 pub job-most : (j w d : ℕ) → j ≤ 64 → w < 10000 → d ≤ 65535 → length (jobLine j w d) ≤ 14
@@ -101,14 +102,14 @@ job-most j w d p q h =
       rest-length (decimal w) (m ∷ []),
       rest-length m [],
       rest-end,
-      decimal-most 1 j (omega arith),
-      decimal-most 3 w q,
+      digits-most 1 j (omega arith),
+      digits-most 3 w q,
       signed-most d w h q,
     )
 
 pub head-most : (n : ℕ) → n < 10000 → length (fields (fitWord ∷ decimal n ∷ [])) ≤ 9
 unfolding fitWord
-head-most n h = omega (arith, fields-length fitWord (decimal n ∷ []), rest-length (decimal n) [], rest-end, decimal-most 3 n h)
+head-most n h = omega (arith, fields-length fitWord (decimal n ∷ []), rest-length (decimal n) [], rest-end, digits-most 3 n h)
 
 pub miss-most : (m : Miss) → scenarioNumber (m .scenario) ≤ 64 → m .job ≤ 64 → m .finish < 10000 → length (missLine m) ≤ 17
 unfolding missLine unfitWord fitWord
@@ -123,7 +124,7 @@ miss-most m p q h =
       rest-length y (z ∷ []),
       rest-length z [],
       rest-end,
-      decimal-most 1 (scenarioNumber (m .scenario)) (omega arith),
-      decimal-most 1 (m .job) (omega arith),
-      decimal-most 3 (m .finish) h,
+      digits-most 1 (scenarioNumber (m .scenario)) (omega arith),
+      digits-most 1 (m .job) (omega arith),
+      digits-most 3 (m .finish) h,
     )

@@ -1,48 +1,25 @@
 -- Laws on numerals.
---   decimal-one    == a number below 10 is one digit
---   decimal-more   == any other is the digits of its tenth, then the last digit
 --   signed-minus   == a margin, by the two numbers that it comes from
 --   put-digit, put-digits   == a number put on a page: of one digit, and of more
 --   put-field      == a number put behind a space
 --   put-late, put-timely    == a margin put behind a space: negative, and not
 -- Assumes nothing.
-use Prim.Native.Nat.{ℕ, zero, suc, _+_, _-_, _/_, _%_, _≤_, _<_}
+use Prim.Native.Nat.{ℕ, suc, _+_, _-_, _/_, _%_, _≤_, _<_}
 use mathlib.Core.Path.{_≡_, refl, sym, _∙_, ap}
 use mathlib.Core.Bool.{cond}
-use mathlib.Core.List.{List, [], _∷_, _++_}
+use mathlib.Core.List.{[], _∷_}
 use native.Mathlib.Omega.{arith}
-use native.Mathlib.Nat.{div-lt-iff-lt-mul}
 use lib.Dec.{ltb}
 use lib.IntN.{pos, _-ℤ_}
 use borrow.Author.Tests.{lt-ltb, le-ltb}
-use Rattle.model.specs.Texts.{digit, spelled, decimal}
+use Rattle.model.specs.Texts.{digit, decimal}
 use Rattle.model.specs.Printed.{signed}
 use Rattle.pages.specs.declared.Page.{Page}
 use Rattle.pages.specs.Pages.{put}
 use Rattle.laws.proofs.Bools.{tests, split}
 use Rattle.laws.proofs.Differences.{minus}
+use Rattle.forms.proofs.Decimals.{decimal-digit, decimal-of}
 use Rattle.pages.proofs.Puts.{put-append}
-
-tenth-less : (n : ℕ) → 10 ≤ n → n / 10 < n
-tenth-less n h = omega arith
-
--- from suc n on the bound makes no difference
-spelled-any : (k m n : ℕ) → n < k → n < m → spelled k n ≡ spelled m n
-unfolding spelled
-spelled-any zero m n p q = absurd (omega arith)
-spelled-any (suc k) zero n p q = absurd (omega arith)
-spelled-any (suc k) (suc m) n p q =
-    split (ltb n 10)
-    (λ h. rw h)
-    (λ h. rw h (ap (λ l. l ++ (digit (n % 10) ∷ [])) (spelled-any k m (n / 10) (omega (tests, h)) (omega (tests, h)))))
-
-pub decimal-one : (n : ℕ) → n < 10 → decimal n ≡ digit n ∷ []
-unfolding decimal spelled
-decimal-one n h = rw (lt-ltb n 10 h)
-
-pub decimal-more : (n : ℕ) → 10 ≤ n → decimal n ≡ decimal (n / 10) ++ (digit (n % 10) ∷ [])
-unfolding decimal spelled
-decimal-more n h = rw (le-ltb n 10 h) (ap (λ l. l ++ (digit (n % 10) ∷ [])) (spelled-any n (suc (n / 10)) (n / 10) (tenth-less n h) (omega arith)))
 
 pub signed-minus : (d w : ℕ) → signed (pos d -ℤ pos w) ≡ cond (ltb d w) (45 ∷ decimal (w - d)) (decimal (d - w))
 unfolding signed
@@ -55,7 +32,7 @@ signed-minus d w =
 module _ (p r : Page) (n : ℕ) where
   pub put-digit : n < 10 → r ≡ put p ((48 + n) ∷ []) → r ≡ put p (decimal n)
   unfolding digit
-  put-digit h e = e ∙ ap (put p) (sym (decimal-one n h))
+  put-digit h e = e ∙ ap (put p) (sym (decimal-digit n h))
 
   pub put-digits : 10 ≤ n → (q : Page) → q ≡ put p (decimal (n / 10)) → r ≡ put q ((48 + n % 10) ∷ []) → r ≡ put p (decimal n)
   unfolding digit
@@ -63,7 +40,7 @@ module _ (p r : Page) (n : ℕ) where
       e
       ∙ ap (λ x. put x (digit (n % 10) ∷ [])) d
       ∙ put-append p (decimal (n / 10)) (digit (n % 10) ∷ [])
-      ∙ ap (put p) (sym (decimal-more n h))
+      ∙ ap (put p) (sym (decimal-of n h))
 
   pub put-field : (q : Page) → q ≡ put p (32 ∷ []) → r ≡ put q (decimal n) → r ≡ put p (32 ∷ decimal n)
   put-field q d e = e ∙ ap (λ x. put x (decimal n)) d ∙ put-append p (32 ∷ []) (decimal n)

@@ -2,10 +2,11 @@
 --   put-append     == two texts are put one after the other
 --   put-page       == what is put on a page stands behind what it holds
 --   put-turn       == one turn of a loop over the bytes of a text;  put-end: its end
+--   page-length    == a page's length is within its room
 --   page-whole     == a page holds the whole of a text that has room on it
 -- Assumes nothing.
 use Prim.Native.Nat.{ℕ, suc, _+_, _-_, _≤_, _<_, min}
-use mathlib.Core.Path.{_≡_, refl, sym, _∙_, ap}
+use mathlib.Core.Path.{_≡_, refl, sym, _∙_, ap, subst}
 use mathlib.Core.List.{List, [], _∷_, _++_, append-assoc, append-nil}
 use native.Mathlib.Omega.{arith}
 use native.Mathlib.Numerals.{add-one}
@@ -70,6 +71,13 @@ put-turn p q r t i h n e =
 pub put-end : (p q : Page) (t : List ℕ) (i : ℕ) → put q (drop i t) ≡ put p t → length t ≤ i → q ≡ put p t
 unfolding put
 put-end p q t i h n = rw (drop-of-length-le t {i = i} n) at h
+
+pub page-length : (p : Page) (l : List ℕ) → p ≡ page l → p .length ≤ length (p .bytes)
+unfolding page
+page-length p l e = subst (λ x. x .length ≤ length (x .bytes)) (sym e) (within size l)
+  where
+    within : (k : ℕ) (l : List ℕ) → min k (length l) ≤ length (take k l ++ replicate (k - length l) 0)
+    within k l = omega (arith, length-append (take k l) (replicate (k - length l) 0), length-take k l)
 
 pub page-whole : (l : List ℕ) → length l ≤ 1024 → take (page l .length) (page l .bytes) ≡ l
 unfolding page size

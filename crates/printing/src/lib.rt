@@ -1,7 +1,9 @@
 // What the program prints for a text (document 01, "Plan text and program").
 ghost use mathlib.Core.Path.{_≡_};
+ghost use Rattle.model.specs.declared.Reading.{Reading as ReadingOf};
 ghost use Rattle.model.specs.Sets.{view};
 ghost use Rattle.model.specs.Answers.{judged};
+ghost use Rattle.model.specs.Texts.{Reads};
 ghost use Rattle.model.specs.Printed.{judgedText, printed};
 ghost use Rattle.pages.specs.Pages.{page};
 
@@ -17,6 +19,7 @@ use model::Set;
 use model::Verdict;
 use pages::Page;
 use pages::refused_page;
+use plan_text::read;
 
 // The answer to a set that was read: what refuses it, or its verdict.
 fn judged_page(s: Set) -> Page
@@ -44,4 +47,11 @@ fn page_of(q: Reading) -> Page
     }
     let s = q.set;
     judged_page(s)
+}
+
+// What the program prints for a text.
+pub fn answer(text: &[u8]) -> Page
+    ensures { λ r. ⌜ ((q : ReadingOf) × Reads (now (text .entry)) q × (r ≡ page (printed q))) ⌝ }
+{
+    page_of(read(text))
 }
