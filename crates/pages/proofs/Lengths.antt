@@ -1,14 +1,14 @@
 -- How long a number, a margin and a line are.
---   digits-most    == a number below a power of ten has no more digits than the power says
+--   digits-most     == a number below a power of ten has no more digits than the power says
 --   signed-most     == a margin takes at most 5 bytes, where the deadline has 16 bits and the worst finish 4 digits
 --   fields-length   == a line, by its fields;  line-most: a line of numbers of 16 bits
 --   lines-most      == lines of at most 14 bytes each
 --   refused-most, job-most, head-most, miss-most   == the lines of the answers
 -- Assumes nothing.
 use Prim.Native.Nat.{ℕ, zero, suc, _+_, _-_, _*_, _/_, _%_, _^_, _≤_, _<_}
-use mathlib.Core.Path.{_≡_, refl, sym, _∙_, ap}
-use mathlib.Core.Bool.{true, cond}
-use mathlib.Core.List.{List, [], _∷_, _++_, map, flatMap}
+use mathlib.Core.Path.{_≡_, refl, _∙_, ap}
+use mathlib.Core.Bool.{true}
+use mathlib.Core.List.{List, [], _∷_, map, flatMap}
 use native.Mathlib.Omega.{arith}
 use native.Mathlib.Nat.{pow-suc}
 use lib.Dec.{ltb}

@@ -13,7 +13,6 @@ use native.Mathlib.Numerals.{add-one}
 use lib.Dec.{ltb}
 use lib.ListN.{length, take, drop, set, getD, replicate, length-append, length-take, drop-of-length-le}
 use lib.Seq.{take-all, take-append-seam, take-append-le, set-at, drop-cons}
-use borrow.Author.Tests.{lt-ltb, le-ltb}
 use Rattle.laws.proofs.Bools.{tests, split}
 use Rattle.pages.specs.declared.Page.{Page}
 use Rattle.pages.specs.Pages.{size, page, more, put}

@@ -5,12 +5,11 @@
 --   times-start, times-turn, times-end  == the loop over the running times
 -- Assumes nothing.
 use Prim.Native.Nat.{ℕ, _+_, _-_, _≤_, _<_}
-use mathlib.Core.Path.{_≡_, refl, sym, _∙_, ap}
+use mathlib.Core.Path.{_≡_, sym, _∙_, ap}
 use mathlib.Core.Bool.{true, cond}
-use mathlib.Core.List.{List, [], _∷_, _++_, map, flatMap}
+use mathlib.Core.List.{List, [], _∷_, map, flatMap}
 use native.Mathlib.Omega.{arith}
 use native.Mathlib.Numerals.{add-one}
-use lib.Dec.{leb}
 use lib.ListN.{getD}
 use borrow.Author.Tests.{le-leb}
 use Rattle.model.specs.declared.Set.{Set}
@@ -19,7 +18,7 @@ use Rattle.model.specs.Sets.{View, view, members, blank}
 use Rattle.model.specs.Refusals.{isGood, refusal}
 use Rattle.model.specs.Scenarios.{places, worst}
 use Rattle.model.specs.Answers.{unless, worsts}
-use Rattle.model.specs.Texts.{decimal, fields, line}
+use Rattle.model.specs.Texts.{decimal, line}
 use Rattle.laws.proofs.Bools.{and-i}
 use Rattle.laws.proofs.Sums.{getD-from}
 use Rattle.laws.proofs.Members.{job-at, members-are, from-step, from-end}

@@ -1,6 +1,5 @@
 -- `with_byte` meets its contract: the byte goes to the first free place, and nowhere where there is none.
 -- Assumes nothing.
-use mathlib.Core.Path.{refl}
 use borrow.Author.Needs.{needs}
 use borrow.Author.Tests.{lt-ltb, le-ltb}
 use Rattle.pages.specs.Pages.{size, more, put}

@@ -18,7 +18,8 @@ with-decimal-requires : tie.Need-with-decimal-requires
 with-decimal-requires c κs = search needs
 
 returns : tie.Need-returns
-returns c = put-late _ _ _ _ (c .before .before .before .if1 .taken) _ _ (c .before .before .with-byte .ensures) (c .before .with-byte2 .ensures) (c .with-decimal .ensures)
+returns c =
+    put-late _ _ _ _ (c .before .before .before .if1 .taken) _ _ (c .before .before .with-byte .ensures) (c .before .with-byte2 .ensures) (c .with-decimal .ensures)
 
 with-field-requires : tie.Need-with-field-requires
 with-field-requires c κs = search needs

@@ -40,9 +40,11 @@ with-byte-requires c κs = search needs
 returns : tie.Need-returns
 unfolding missLine unfitWord fitWord
 returns c =
-    on-empty _ _ _ (c .before .before .before .before .before .before .before .before .before .empty-page .ensures)
-    (put-four _ _ _ _ _ _ (c .before .before .before .before .before .before .before .with-bytes .ensures)
-    (number _ _ _ _ (c .before .before .before .before .before .before .scenario-number .ensures) (c .before .before .before .before .before .with-field .ensures)) _ _
+    let failing = c .before .before .before .before .before in
+    let word = failing .before .before in
+    on-empty _ _ _ (word .before .before .empty-page .ensures)
+    (put-four _ _ _ _ _ _ (word .with-bytes .ensures)
+    (number _ _ _ _ (failing .before .scenario-number .ensures) (failing .with-field .ensures)) _ _
     (c .before .before .before .with-field2 .ensures) _ _ (c .before .with-field3 .ensures) (c .with-byte .ensures))
 
 pub miss-page-spec : {M : Type 1} → statement M

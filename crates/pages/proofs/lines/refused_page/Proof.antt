@@ -30,8 +30,10 @@ with-byte-requires c κs = search needs
 returns : tie.Need-returns
 unfolding refusedText refusedWord
 returns c =
-    on-empty _ _ _ (c .before .before .before .before .before .before .empty-page .ensures)
-    (put-three _ _ _ _ _ _ (c .before .before .before .before .with-bytes .ensures) (c .before .before .with-field .ensures) _ _ (c .before .with-field2 .ensures) (c .with-byte .ensures))
+    let word = c .before .before .before .before in
+    on-empty _ _ _ (word .before .before .empty-page .ensures)
+    (put-three _ _ _ _ _ _ (word .with-bytes .ensures) (c .before .before .with-field .ensures) _ _ (c .before .with-field2 .ensures)
+    (c .with-byte .ensures))
 
 pub refused-page-spec : {M : Type 1} → statement M
 refused-page-spec =

@@ -21,7 +21,8 @@ with-byte-requires c κs = search needs
 returns : tie.Need-returns
 unfolding jobLine
 returns c =
-    put-three _ _ _ _ _ _ (c .before .before .before .with-decimal .ensures) (c .before .before .with-field .ensures) _ _ (c .before .with-margin .ensures) (c .with-byte .ensures)
+    put-three _ _ _ _ _ _ (c .before .before .before .with-decimal .ensures) (c .before .before .with-field .ensures) _ _
+    (c .before .with-margin .ensures) (c .with-byte .ensures)
 
 pub with-job-spec : {M : Type 1} → statement M
 with-job-spec =

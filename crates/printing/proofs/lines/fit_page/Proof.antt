@@ -33,7 +33,8 @@ with-jobs-requires c κs = search needs
 returns : tie.Need-returns
 unfolding fitWord
 returns c =
-    fit-answer _ _ _ _ _ _ _ (c .before .before .before .before .before .before .before .empty-page .ensures) (c .before .before .before .before .before .with-bytes .ensures) (c .before .before .before .before .span-of .ensures)
+    let word = c .before .before .before .before .before in
+    fit-answer _ _ _ _ _ _ _ (word .before .before .empty-page .ensures) (word .with-bytes .ensures) (c .before .before .before .before .span-of .ensures)
     (c .before .before .before .with-field .ensures) (c .before .before .with-byte .ensures) (c .with-jobs .ensures)
 
 pub fit-page-spec : {M : Type 1} → statement M

@@ -61,9 +61,11 @@ with-byte-requires c κs = search needs
 
 returns : tie.Need-returns Inv-loop μ-loop
 returns c =
+    let first = c .before .before .before in
+    let start = first .before .before in
     times-end _ _ _ _ _ _ (c .before .loop-test .left) (c .before .before .loop .inv .2) (c .with-byte .ensures)
-    ∙ times-start _ _ (c .before .before .before .before .before .pre .0) _ _
-    (c .before .before .before .with-decimal .ensures ∙ ap (λ x. put (c .before .before .before .before .before .args .p) (decimal x)) (c .before .before .before .before .wide .ensures))
+    ∙ times-start _ _ (start .pre .0) _ _
+    (first .with-decimal .ensures ∙ ap (λ x. put (start .args .p) (decimal x)) (first .before .wide .ensures))
 
 pub with-times-spec : {M : Type 1} → statement M
 with-times-spec =
