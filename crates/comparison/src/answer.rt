@@ -7,9 +7,10 @@ use case_text::first;
 use case_text::rest;
 use model::Set;
 
-// Writes the library's answer as it should stand behind the question.
+// Writes the library's answer as it should stand behind the question. The file is made anew, so that no earlier answer can be read for it.
 fn write_answer(question: &[u8], s: Set) {
-    let fd = os::open_overwrite(b"answer");
+    os::unlink(b"answer");
+    let fd = os::create(b"answer");
     bytes(fd, b"=");
     questions::answer(fd, b"=", question, s);
     bytes(fd, b"\n");
