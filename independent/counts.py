@@ -21,13 +21,10 @@ QUESTIONS = {
     "checks": "checks",
 }
 KINDS = ["fit", "unfit in LO", "unfit in HI"] + [f"refused {n}" for n in range(1, 11)] + list(QUESTIONS.values())
-TEXTS_ARE_COMPARED = False  # until then a question on a text is counted as such
 
 
 def kind(question, answer):
     """The kind of a question, as its words, by the words of the first line of its answer, which may be none."""
-    if question[0] == "print" and not TEXTS_ARE_COMPARED:
-        return "texts"
     first = answer[0] if answer else ""
     if first == "FIT":
         return "fit"
@@ -40,7 +37,7 @@ def kind(question, answer):
 
 def counts(lines):
     """How many questions there are of each kind."""
-    found = dict.fromkeys(KINDS + ["texts"], 0)
+    found = dict.fromkeys(KINDS, 0)
     for line, following in zip(lines, lines[1:] + [""]):
         if line.startswith("?"):
             assert following.startswith("="), f"no answer stands behind: {line}"

@@ -1,5 +1,5 @@
 // Does the cases of data/cases.txt through the library, and holds each answer against the one that stands in the file, byte by byte.
-// A line builds a set (crate case_text), or begins with `? ` and asks something of it (crate questions); directly behind it stand the expected
+// A line builds a set (crate case_text), or begins with `? ` and asks something of it (crate questions), or gives a text, of which `? print` asks what is printed for it; directly behind it stand the expected
 // lines of the answer, each after a `=`. Any other line is a comment. Prints how many answers of each kind agree, and each case that differs.
 mod answer;
 mod tally;
@@ -81,7 +81,12 @@ fn asked(text: &[u8], at: usize, case: usize, s: Set, t: Tally) -> Tally {
     }
     let from = next_line(text, at);
     let end = wanted_end(text, from);
-    let kind = compared(rest(line, 2), between(text, from, end), s);
+    let kind = compared(
+        line_at(text, case),
+        rest(line, 2),
+        between(text, from, end),
+        s,
+    );
     if kind == DIFFERENCES {
         show_difference(between(text, case, end));
     }

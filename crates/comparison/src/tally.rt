@@ -10,7 +10,7 @@ use case_text::rest;
 
 // The counts of the kinds in the order in which they are printed, and last that of the differences.
 pub struct Tally {
-    pub counts: [u64; 24],
+    pub counts: [u64; 23],
 }
 
 const FIT: usize = 0;
@@ -21,18 +21,16 @@ const UNFIT_HI: usize = 2;
 
 const REFUSED: usize = 2;
 
-pub const TEXTS: usize = 22;
-
-pub const DIFFERENCES: usize = 23;
+pub const DIFFERENCES: usize = 22;
 
 // Nothing counted.
 pub fn no_tally() -> Tally {
-    Tally { counts: [0; 24] }
+    Tally { counts: [0; 23] }
 }
 
 // One more of a kind.
 pub fn with_one(t: Tally, kind: usize) -> Tally {
-    if kind >= 24 {
+    if kind >= 23 {
         return t;
     }
     let mut counts = t.counts;
@@ -102,7 +100,6 @@ margins
 spans
 picks
 checks
-texts
 differences
 ";
     show_counts(t, names);
@@ -112,7 +109,7 @@ differences
 fn show_counts(t: Tally, names: &[u8]) {
     let mut at: usize = 0;
     let mut i: usize = 0;
-    while i < 24 {
+    while i < 23 {
         bytes(1, line_at(names, at));
         number(1, t.counts[i]);
         bytes(1, b"\n");

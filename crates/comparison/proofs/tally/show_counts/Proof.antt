@@ -1,4 +1,4 @@
--- `show_counts` is safe and ends. There are 24 counts.
+-- `show_counts` is safe and ends. There are 23 counts.
 -- Assumes nothing.
 use borrow.Author.Needs.{needs}
 use Prim.Native.Nat.{_≤_, _-_}
@@ -8,10 +8,10 @@ use Rattle.comparison.proofs.tally.show_counts.Statement.{statement}
 use Rattle.comparison.proofs.tally.show_counts.Tie as tie
 
 abbrev Inv-loop : tie.InvT-loop
-Inv-loop names t at₀ i₀ t6 at i = (i ≤ 24) × (length (t .counts) ≡ 24)
+Inv-loop names t at₀ i₀ t6 at i = (i ≤ 23) × (length (t .counts) ≡ 23)
 
 abbrev μ-loop : tie.MeasureT-loop
-μ-loop names t at₀ i₀ t6 at i = 24 - i
+μ-loop names t at₀ i₀ t6 at i = 23 - i
 
 loop-holds : tie.Need-loop-holds Inv-loop μ-loop
 loop-holds c = search needs
