@@ -1,8 +1,11 @@
--- A number of the text, digit by digit: at a cursor i of the text t, with the byte b there.
+-- A number of the text, digit by digit.
+--   here                       == the text from a cursor that stands before its end: the byte there, and what is behind it
+--   Goes .. i v                == what is read from the cursor i on, behind the digits of v, is what is to be found
 --   more-start, more-next      == what is to be found does not change while the digits go on
 --   more-ends, number-ends     == the text ends
 --   more-stops, more-done      == the byte is no further digit; it is the one behind the number
 --   number-stops, number-goes  == the byte is no first digit; it is one
+--   begins-digit, grows-digit  == what the tests of a byte say
 -- Assumes nothing.
 use Prim.Native.Nat.{ℕ, _+_, _-_, _*_, _≤_, _<_}
 use mathlib.Core.Path.{_≡_, refl, sym, _∙_, ap}
@@ -10,17 +13,17 @@ use mathlib.Core.Bool.{true, false}
 use mathlib.Core.List.{List, _∷_}
 use native.Mathlib.Numerals.{add-one}
 use native.Mathlib.Omega.{arith}
+use borrow.Author.Tests.{eq-eqb, ne-eqb, leb-true}
 use lib.ListN.{length, getD, drop, drop-of-length-le}
 use lib.Seq.{drop-cons, drop-length}
 use lib.Dec.{leb, ltb}
-use borrow.Author.Tests.{eq-eqb, ne-eqb, leb-true}
 use Rattle.laws.proofs.Bools.{and-l, and-r}
+use Rattle.forms.specs.Forms.{begins, grows, more, number}
 use Rattle.fields.specs.declared.Field.{Field}
 use Rattle.fields.specs.declared.Field.the-variants.{Number, Stuck}
-use Rattle.forms.specs.Forms.{begins, grows, more, number}
 use Rattle.fields.specs.Cursors.{pieceAt, reached, Found}
 
--- the text from a cursor that reached before its end
+-- the text from a cursor that stands before its end
 pub here : (t : List ℕ) (i : ℕ) → i < length t → drop i t ≡ getD t i 0 ∷ drop (i + 1) t
 here t i h = rw (add-one i) (drop-cons t i 0 h)
 
@@ -84,7 +87,6 @@ module _ (t : List ℕ) (at least most c : ℕ) where
     unfolding number
     number-goes r b f = record { piece = f .piece ∙ sym (rw (here t at h, b)); within = f .within }
 
--- what the tests say
 pub begins-digit : (least most b : ℕ) → begins least most b ≡ true → 48 ≤ b
 unfolding begins
 begins-digit least most b h = leb-true 48 b (and-l (leb 48 b) _ h)

@@ -7,13 +7,13 @@ use Prim.Native.Nat.{ℕ, _+_, _-_, _≤_, _<_}
 use mathlib.Core.Path.{_≡_, _∙_, ap}
 use mathlib.Core.List.{List}
 use native.Mathlib.Omega.{arith}
+use borrow.Author.Tests.{eq-eqb, ne-eqb}
 use lib.Seq.{drop-length}
 use lib.ListN.{length, getD, drop-of-length-le}
-use borrow.Author.Tests.{eq-eqb, ne-eqb}
-use Rattle.fields.specs.declared.Step.{Step}
-use Rattle.fields.specs.declared.Step.the-variants.{At, Stuck}
 use Rattle.forms.specs.Forms.{Form, scan, bytes}
 use Rattle.forms.specs.Forms.Form.{byte}
+use Rattle.fields.specs.declared.Step.{Step}
+use Rattle.fields.specs.declared.Step.the-variants.{At, Stuck}
 use Rattle.fields.specs.Cursors.{onward, stands, Steps}
 use Rattle.fields.proofs.Digits.{here}
 

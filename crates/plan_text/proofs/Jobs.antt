@@ -1,8 +1,10 @@
 -- The jobs, line by line.
---   ones-set            == the number of HI jobs, once a blank place is filled;  ones-front: those of the places filled;  ones-most: its bound
---   Begun .. js hi p i  == the jobs before place i have been read: the scan of the section is that of what is left of it
---   jobs-start, jobs-next == none has been read; one more
---   jobs-stuck, jobs-end  == the text is stuck in a line; all have been read
+--   ones-front, ones-set    == the number of HI jobs is that of the places filled; once a blank place is filled
+--   ones-most, hi-fits      == its bound
+--   job-said                == what a line says, in the array of its numbers
+--   Begun .. js hi p i      == the jobs before place i have been read: the scan of the section is that of what is left of it
+--   jobs-start, jobs-next   == none has been read; one more
+--   jobs-stuck, jobs-end    == the text is stuck in a line; all have been read;  hi-most: the number of HI jobs meanwhile
 -- Assumes nothing.
 use Prim.Native.Nat.{ℕ, zero, suc, _+_, _-_, _≤_, _<_}
 use mathlib.Core.Path.{_≡_, refl, sym, _∙_, ap}
@@ -16,9 +18,9 @@ use Rattle.model.specs.Sets.{job, blank}
 use Rattle.model.specs.Texts.{levelNumber, ones}
 use Rattle.forms.specs.Forms.{Form, scan, row, jobLimits, jobOf, jobs}
 use Rattle.forms.proofs.Sections.{level-most}
-use Rattle.plan_text.specs.declared.lines.Row.{Row}
 use Rattle.fields.specs.declared.Step.the-variants.{At, Stuck}
 use Rattle.fields.specs.Cursors.{onward, stands}
+use Rattle.plan_text.specs.declared.lines.Row.{Row}
 use Rattle.plan_text.specs.Parts.{limitAt, limitsFrom, limits, Room, RowRead, JobsRead}
 use Rattle.plan_text.proofs.Room.{blank-room, room-later, room-set, front-more}
 
@@ -41,14 +43,14 @@ pub ones-front : (js : List Job) (n : ℕ) → Room blank n js → ones js ≡ o
 ones-front js n r =
     ap ones (sym (take-append-drop n js))
     ∙ ones-append (take n js) (drop n js)
-    ∙ (let e = ap ones (r .blank) ∙ ones-blank (64 - n) in omega arith)
+    ∙ (let e = ap ones (r .rest) ∙ ones-blank (64 - n) in omega arith)
 
 pub ones-set : (js : List Job) (i : ℕ) (j : Job) → i < 64 → Room blank i js → ones (list.set js i j) ≡ ones js + levelNumber (j .level)
 unfolding ones
 ones-set js i j h r =
     let b = ones-blank (64 - (i + 1)) in
     let e = ones-front js i r in
-    let f = ap ones (room-set blank js i r j .blank) in
+    let f = ap ones (room-set blank js i r j .rest) in
     ones-front (list.set js i j) (i + 1) (room-set blank js i r j)
     ∙ ap ones (front-more blank js i r j h)
     ∙ ones-append (take i js) (j ∷ [])
@@ -57,7 +59,6 @@ ones-set js i j h r =
 pub hi-fits : (js : List Job) (n m : ℕ) → Room blank n js → m ≡ ones (take n js) → m ≤ 64
 hi-fits js n m r e = omega (arith, e, ones-front js n r, ones-most js, r .size)
 
--- what a line says, in the array of its numbers
 pub job-said : (v : List ℕ) → jobOf (take 5 v) ≡ jobOf v
 unfolding jobOf
 job-said v =

@@ -6,13 +6,13 @@ use Prim.Native.Nat.{ℕ, zero, suc, _+_, _≤_}
 use mathlib.Core.Path.{_≡_, refl, sym, _∙_, ap}
 use mathlib.Core.List.{List, [], _∷_}
 use native.Mathlib.Omega.{arith}
-use lib.ListN.{drop, replicate}
 use borrow.Author.Tests.{ne-eqb}
+use lib.ListN.{drop, replicate}
 use Rattle.forms.specs.Forms.{scan, count, row, order}
-use Rattle.plan_text.specs.declared.lines.Row.{Row}
 use Rattle.fields.specs.declared.Step.{Step}
 use Rattle.fields.specs.declared.Step.the-variants.{At, Stuck}
 use Rattle.fields.specs.Cursors.{onward, stands, Steps}
+use Rattle.plan_text.specs.declared.lines.Row.{Row}
 use Rattle.plan_text.specs.Parts.{limitAt, limitsFrom, limits, RowRead}
 use Rattle.plan_text.proofs.Room.{blank-room}
 

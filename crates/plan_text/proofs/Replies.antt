@@ -9,7 +9,7 @@
 -- Assumes nothing.
 use Prim.Native.Nat.{ℕ, _-_, _≤_, _<_}
 use mathlib.Core.Path.{_≡_, sym, _∙_, ap, subst}
-use mathlib.Core.List.{List, []}
+use mathlib.Core.List.{List}
 use native.Mathlib.Omega.{arith}
 use lib.ListN.{length, take, drop, length-drop, drop-of-length-le}
 use lib.Seq.{length-take-le}
@@ -27,21 +27,21 @@ use Rattle.forms.proofs.Reader.{reads}
 use Rattle.fields.specs.declared.Field.{Field}
 use Rattle.fields.specs.declared.Got.{Got}
 use Rattle.fields.specs.declared.Field.the-variants as piece
-use Rattle.plan_text.specs.declared.lines.Row.{Row}
 use Rattle.fields.specs.declared.Step.{Step}
 use Rattle.fields.specs.declared.Step.the-variants.{At, Stuck}
-use Rattle.plan_text.specs.declared.sections.Section.{Section}
-use Rattle.readings.specs.Readings.{answer, refusedAt}
 use Rattle.fields.specs.Cursors.{pieceAt, reached, Found, onward, stands}
+use Rattle.fields.proofs.Digits.{here}
+use Rattle.readings.specs.Readings.{answer, refusedAt}
+use Rattle.plan_text.specs.declared.lines.Row.{Row}
+use Rattle.plan_text.specs.declared.sections.Section.{Section}
 use Rattle.plan_text.specs.Parts.{Room, RowRead, JobsRead, lastOrder, bothOrders, answerAt}
 use Rattle.plan_text.proofs.Room.{whole}
-use Rattle.fields.proofs.Digits.{here}
 
-pub place-is : (t : List ℕ) (p : ℕ) → p ≤ length t → refusedAt p ≡ answered t (stuck (drop p t))
+place-is : (t : List ℕ) (p : ℕ) → p ≤ length t → refusedAt p ≡ answered t (stuck (drop p t))
 unfolding answered refusedAt answer
 place-is t p h = let e : p ≡ length t - length (drop p t) = omega (arith, length-drop p t) in rw (← e)
 
-pub refused-is : (p : ℕ) (s : Set) (x : Reading) → s ≡ noSet → x ≡ answer 1 p s → x ≡ refusedAt p
+refused-is : (p : ℕ) (s : Set) (x : Reading) → s ≡ noSet → x ≡ answer 1 p s → x ≡ refusedAt p
 unfolding refusedAt
 refused-is p s x e y = y ∙ ap (answer 1 p) e
 
@@ -54,9 +54,10 @@ module _ (t : List ℕ) (at : ℕ) (s : Set) (x : Reading) where
   unfolding answerAt scan answered answer good
   done-good h y = rw (drop-of-length-le t h) y
 
--- some form behind an order
-done-with : List ℕ → Form
-done-with hi = done (set [] [] hi)
+-- where a step leads is in the text
+leads : (t : List ℕ) (r : Step) (p : ℕ) → stands r ≤ length t → r ≡ At p → p ≤ length t
+unfolding stands
+leads t r p w e = rw e at w
 
 -- a part whose scan goes on where the step leads, by the form f
 module _ (t : List ℕ) (at : ℕ) (whole f : Form) (r : Step) (p : ℕ) (x : Reading) (g : scan whole (drop at t) ≡ onward t f r)
@@ -69,13 +70,9 @@ module _ (t : List ℕ) (at : ℕ) (whole f : Form) (r : Step) (p : ℕ) (x : Re
   unfolding answerAt onward
   step-goes e y = y ∙ sym (ap (answered t) (g ∙ ap (onward t f) e))
 
-  step-leads : r ≡ At p → p ≤ length t
-  unfolding stands
-  step-leads e = rw e at w
-
 module _ (t : List ℕ) (at n : ℕ) (r : Row) (z : RowRead t at n (order n) r) (p : ℕ) where
   pub order-leads : r .step ≡ At p → p ≤ length t
-  order-leads = step-leads t at (order n done-with) (done-with (take n (r .values))) (r .step) p (refusedAt p) (z .goes done-with) (z .within)
+  order-leads = leads t (r .step) p (z .within)
 
   module _ (js : List Job) (x : Reading) where
     module _ (lo : List ℕ) where
@@ -106,7 +103,7 @@ module _ (t : List ℕ) (at n : ℕ) (r : Section) (z : JobsRead t at n r) (p : 
   goes = z .goes (λ js. bothOrders js n)
 
   pub jobs-leads : r .step ≡ At p → p ≤ length t
-  jobs-leads = step-leads t at (sections n) (bothOrders (take n (r .jobs)) n) (r .step) p (refusedAt p) goes (z .within)
+  jobs-leads = leads t (r .step) p (z .within)
 
   module _ (x : Reading) where
     pub jobs-stuck : r .step ≡ Stuck p → x ≡ refusedAt p → x ≡ answerAt t at (sections n)
@@ -146,4 +143,7 @@ pub set-whole : (js : List Job) (n : ℕ) (lo hi : List ℕ) (m : ℕ) → n ≤
     ≡ set (take n js) (take n lo) (take m hi)
 unfolding set
 set-whole js n lo hi m h q a b c =
-    rw (← (whole blank js n a h), ← (whole 0 lo n b h), ← (whole 0 hi m c q), length-take-le n js (omega (arith, a .size)), length-take-le n lo (omega (arith, b .size)), length-take-le m hi (omega (arith, c .size)))
+    let i = length-take-le n js (omega (arith, a .size)) in
+    let j = length-take-le n lo (omega (arith, b .size)) in
+    let k = length-take-le m hi (omega (arith, c .size)) in
+    rw (← (whole blank js n a h), ← (whole 0 lo n b h), ← (whole 0 hi m c q), i, j, k)

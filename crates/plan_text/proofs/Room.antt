@@ -31,13 +31,13 @@ module _ {A : Type 0} (d : A) where
 
   module _ (v : List A) (i : ℕ) (r : Room d i v) where
     pub room-later : (n : ℕ) → i ≤ n → Room d n v
-    room-later n h = record { size = r .size; blank = later v i n h (r .blank) }
+    room-later n h = record { size = r .size; rest = later v i n h (r .rest) }
 
     pub room-set : (x : A) → Room d (i + 1) (set v i x)
     room-set x =
         record {
           size = length-set v i x ∙ r .size;
-          blank = drop-set-lt (i + 1) v i x (omega arith) ∙ later v i (i + 1) (omega arith) (r .blank);
+          rest = drop-set-lt (i + 1) v i x (omega arith) ∙ later v i (i + 1) (omega arith) (r .rest);
         }
 
     pub front-more : (x : A) → i < 64 → take (i + 1) (set v i x) ≡ take i v ++ (x ∷ [])
@@ -46,7 +46,7 @@ module _ {A : Type 0} (d : A) where
     pub whole : i ≤ 64 → v ≡ take i v ++ replicate (64 - length (take i v)) d
     whole h =
         sym (take-append-drop i v)
-        ∙ ap (λ l. take i v ++ l) (r .blank ∙ ap (λ j. replicate (64 - j) d) (sym (length-take-le i v (omega (arith, r .size)))))
+        ∙ ap (λ l. take i v ++ l) (r .rest ∙ ap (λ j. replicate (64 - j) d) (sym (length-take-le i v (omega (arith, r .size)))))
 
   pub blank-room : (n : ℕ) → Room d n (replicate 64 d)
-  blank-room n = room-later (replicate 64 d) 0 (record { size = refl; blank = refl }) n (omega arith)
+  blank-room n = room-later (replicate 64 d) 0 (record { size = refl; rest = refl }) n (omega arith)

@@ -8,16 +8,16 @@ use mathlib.Core.Path.{_≡_, refl, sym, _∙_, ap}
 use mathlib.Core.Bool.{cond}
 use mathlib.Core.List.{List, [], _∷_, _++_}
 use native.Mathlib.Omega.{arith}
+use borrow.Author.Tests.{ltb-true, ltb-false, lt-ltb, le-ltb}
 use lib.Dec.{ltb}
 use lib.ListN.{length, take, drop, set, replicate}
-use borrow.Author.Tests.{ltb-true, ltb-false, lt-ltb, le-ltb}
 use Rattle.laws.proofs.Bools.{split}
+use Rattle.forms.specs.Forms.{Form, scan, then, row, number, space, lf}
+use Rattle.forms.specs.Forms.Form.{field}
 use Rattle.fields.specs.declared.Field.{Field}
 use Rattle.fields.specs.declared.Got.{Got}
 use Rattle.fields.specs.declared.Field.the-variants as piece
 use Rattle.fields.specs.declared.Step.the-variants.{At, Stuck}
-use Rattle.forms.specs.Forms.{Form, scan, then, row, number, space, lf}
-use Rattle.forms.specs.Forms.Form.{field}
 use Rattle.fields.specs.Cursors.{pieceAt, reached, Found, onward, stands}
 use Rattle.plan_text.specs.Parts.{limitAt, limitsFrom, limits, behindAt, Room, RowRead}
 use Rattle.plan_text.proofs.Room.{room-later, room-set, front-more}
@@ -51,7 +51,7 @@ module _ (t : List ℕ) (at n level : ℕ) where
       record {
         goes = λ k. ap (λ j. scan (row (limitsFrom level 0 j) [] k) (drop at t)) e;
         within = h;
-        room = record { size = refl; blank = refl };
+        room = record { size = refl; rest = refl };
       }
 
   module _ (v : List ℕ) (p i : ℕ) (g : Begun v p i) where

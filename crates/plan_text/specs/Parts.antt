@@ -16,11 +16,11 @@ use Rattle.model.specs.declared.Job.{Job}
 use Rattle.model.specs.declared.Reading.{Reading}
 use Rattle.model.specs.Sets.{blank, set}
 use Rattle.model.specs.Texts.{ones}
-use Rattle.plan_text.specs.declared.lines.Row.{Row}
-use Rattle.plan_text.specs.declared.sections.Section.{Section}
 use Rattle.forms.specs.Forms.{Form, scan, space, lf, jobs, order, answered}
 use Rattle.forms.specs.Forms.Form.{done}
 use Rattle.fields.specs.Cursors.{onward, stands}
+use Rattle.plan_text.specs.declared.lines.Row.{Row}
+use Rattle.plan_text.specs.declared.sections.Section.{Section}
 
 unfoldable pub limitAt : ℕ → ℕ → ℕ
 limitAt level i = cond (eqb i level) 1 65535
@@ -39,7 +39,7 @@ behindAt n i = cond (ltb (i + 1) n) space lf
 -- "Room beyond a count is no part of the set: .. the reader leaves 0 there (level LO)."
 pub record Room {A : Type 0} (d : A) (n : ℕ) (v : List A) : Type 0 where
   pub size : length v ≡ 64
-  pub blank : drop n v ≡ replicate (64 - n) d
+  pub rest : drop n v ≡ replicate (64 - n) d
 
 pub record RowRead (t : List ℕ) (at n : ℕ) (part : (List ℕ → Form) → Form) (r : Row) : Type 0 where
   pub goes : (k : List ℕ → Form) → scan (part k) (drop at t) ≡ onward t (k (take n (r .values))) (r .step)

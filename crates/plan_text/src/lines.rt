@@ -20,7 +20,7 @@ pub struct Row {
 
 // The line of a count that is determined.
 pub fn count_line(text: &[u8], at: usize, n: usize) -> Step
-    requires { ⌜ (at ≤ length (now text)) × (n ≤ 64) ⌝ }
+    requires { ⌜ n ≤ 64 ⌝ }
     ensures { λ r. ⌜ Steps (now (text .entry)) at (count n) r ⌝ }
 {
     let c = n as u8;

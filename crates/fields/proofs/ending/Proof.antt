@@ -1,8 +1,8 @@
 -- `ending` meets its contract: the byte, then the line feed. Assumes nothing.
+use borrow.Author.Needs.{needs}
 use Rattle.forms.specs.Forms.{bytes, lf}
 use Rattle.forms.specs.Forms.Form.{byte}
 use Rattle.fields.proofs.Given.{stuck-before, goes-on}
-use borrow.Author.Needs.{needs}
 use Rattle.fields.proofs.ending.Statement.{statement}
 use Rattle.fields.proofs.ending.Tie as tie
 

@@ -1,6 +1,6 @@
 -- `expect` meets its contract, by each arm. Assumes nothing.
-use Rattle.fields.proofs.Given.{byte-ends, byte-stops, byte-goes}
 use borrow.Author.Needs.{needs}
+use Rattle.fields.proofs.Given.{byte-ends, byte-stops, byte-goes}
 use Rattle.fields.proofs.expect.Statement.{statement}
 use Rattle.fields.proofs.expect.Tie as tie
 

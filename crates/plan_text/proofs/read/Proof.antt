@@ -1,6 +1,6 @@
 -- `read` meets its contract: its answer is the one by the scan, which is the one that document 01 asks for. Assumes nothing.
-use Rattle.plan_text.proofs.Replies.{count-within, count-most, count-stuck, count-goes}
 use borrow.Author.Needs.{needs}
+use Rattle.plan_text.proofs.Replies.{count-within, count-most, count-stuck, count-goes}
 use Rattle.plan_text.proofs.read.Statement.{statement}
 use Rattle.plan_text.proofs.read.Tie as tie
 

@@ -1,7 +1,7 @@
 -- `job_of` meets its contract, field by field. Assumes nothing.
+use borrow.Author.Needs.{needs}
 use Rattle.model.specs.Sets.{job}
 use Rattle.forms.specs.Forms.{jobOf}
-use borrow.Author.Needs.{needs}
 use Rattle.readings.proofs.job_of.Statement.{statement}
 use Rattle.readings.proofs.job_of.Tie as tie
 

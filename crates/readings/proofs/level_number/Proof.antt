@@ -1,6 +1,6 @@
 -- `level_number` meets its contract, by each arm. Assumes nothing.
-use Rattle.model.specs.Texts.{levelNumber}
 use borrow.Author.Needs.{needs}
+use Rattle.model.specs.Texts.{levelNumber}
 use Rattle.readings.proofs.level_number.Statement.{statement}
 use Rattle.readings.proofs.level_number.Tie as tie
 

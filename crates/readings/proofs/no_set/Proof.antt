@@ -1,7 +1,7 @@
 -- `no_set` meets its contract: blank room throughout. Assumes nothing.
+use borrow.Author.Needs.{needs}
 use Rattle.model.specs.Sets.{set}
 use Rattle.model.specs.Texts.{noSet}
-use borrow.Author.Needs.{needs}
 use Rattle.readings.proofs.no_set.Statement.{statement}
 use Rattle.readings.proofs.no_set.Tie as tie
 

@@ -1,7 +1,7 @@
 -- `refused` meets its contract: the answer has no set. Assumes nothing.
 use mathlib.Core.Path.{_∙_, ap}
-use Rattle.readings.specs.Readings.{answer, refusedAt}
 use borrow.Author.Needs.{needs}
+use Rattle.readings.specs.Readings.{answer, refusedAt}
 use Rattle.readings.proofs.refused.Statement.{statement}
 use Rattle.readings.proofs.refused.Tie as tie
 

@@ -1,6 +1,6 @@
 -- `ended` meets its contract, by each arm. Assumes nothing.
-use Rattle.plan_text.proofs.Replies.{done-stuck, done-good}
 use borrow.Author.Needs.{needs}
+use Rattle.plan_text.proofs.Replies.{done-stuck, done-good}
 use Rattle.plan_text.proofs.answers.ended.Statement.{statement}
 use Rattle.plan_text.proofs.answers.ended.Tie as tie
 

@@ -1,8 +1,8 @@
 -- `with_count` meets its contract: the jobs, and the orders behind them. Assumes nothing.
 use mathlib.Core.Path.{_∙_}
+use borrow.Author.Needs.{needs}
 use Rattle.plan_text.proofs.Jobs.{ones-front}
 use Rattle.plan_text.proofs.Replies.{jobs-leads, jobs-stuck, jobs-goes}
-use borrow.Author.Needs.{needs}
 use Rattle.plan_text.proofs.answers.with_count.Statement.{statement}
 use Rattle.plan_text.proofs.answers.with_count.Tie as tie
 

@@ -1,7 +1,7 @@
 -- `with_jobs` meets its contract: the LO order, and the HI order behind it. Assumes nothing.
+use borrow.Author.Needs.{needs}
 use Rattle.plan_text.proofs.Jobs.{hi-fits}
 use Rattle.plan_text.proofs.Replies.{order-leads, both-stuck, both-goes}
-use borrow.Author.Needs.{needs}
 use Rattle.plan_text.proofs.answers.with_jobs.Statement.{statement}
 use Rattle.plan_text.proofs.answers.with_jobs.Tie as tie
 

@@ -1,6 +1,6 @@
 -- `with_lo_order` meets its contract: the HI order, and the end of the text behind it. Assumes nothing.
-use Rattle.plan_text.proofs.Replies.{order-leads, last-stuck, last-goes}
 use borrow.Author.Needs.{needs}
+use Rattle.plan_text.proofs.Replies.{order-leads, last-stuck, last-goes}
 use Rattle.plan_text.proofs.answers.with_lo_order.Statement.{statement}
 use Rattle.plan_text.proofs.answers.with_lo_order.Tie as tie
 

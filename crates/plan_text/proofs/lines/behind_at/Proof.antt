@@ -1,8 +1,8 @@
 -- `behind_at` meets its contract, by each arm. Assumes nothing.
 use borrow.Author.Tests.{lt-ltb, le-ltb}
+use borrow.Author.Needs.{needs}
 use Rattle.forms.specs.Forms.{space, lf}
 use Rattle.plan_text.specs.Parts.{behindAt}
-use borrow.Author.Needs.{needs}
 use Rattle.plan_text.proofs.lines.behind_at.Statement.{statement}
 use Rattle.plan_text.proofs.lines.behind_at.Tie as tie
 

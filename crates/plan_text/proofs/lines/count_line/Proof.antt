@@ -1,10 +1,10 @@
 -- `count_line` meets its contract: the first of two digits, then the last and the line feed. Assumes nothing.
 use native.Mathlib.Omega.{arith}
+use borrow.Author.Needs.{needs}
 use Rattle.model.specs.Texts.{digit}
 use Rattle.forms.specs.Forms.{bytes}
 use Rattle.fields.proofs.Given.{stuck-before, goes-on}
 use Rattle.plan_text.proofs.Counts.{one-digit, two-digits}
-use borrow.Author.Needs.{needs}
 use Rattle.plan_text.proofs.lines.count_line.Statement.{statement}
 use Rattle.plan_text.proofs.lines.count_line.Tie as tie
 

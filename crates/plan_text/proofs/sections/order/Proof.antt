@@ -1,7 +1,7 @@
 -- `order` meets its contract: the count's line, then the line of its entries. Assumes nothing.
+use borrow.Author.Needs.{needs}
 use Rattle.fields.proofs.Given.{leads}
 use Rattle.plan_text.proofs.Orders.{order-stuck, order-goes}
-use borrow.Author.Needs.{needs}
 use Rattle.plan_text.proofs.sections.order.Statement.{statement}
 use Rattle.plan_text.proofs.sections.order.Tie as tie
 
