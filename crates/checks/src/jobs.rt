@@ -1,5 +1,4 @@
 // The jobs of a set, one after the other.
-ghost use Prim.Native.Nat.{_<_, max};
 ghost use mathlib.Core.Path.{_≡_};
 ghost use lib.ListN.{length};
 ghost use Rattle.model.specs.Lists.{first};
@@ -10,20 +9,6 @@ use model::Set;
 use rules::jobs::breaks;
 use rules::jobs::is_hi;
 use rules::orders::places;
-
-// The number, at the width of a place value.
-pub fn wide(x: u16) -> u64
-    ensures { λ r. ⌜ (r ≡ x) × (r < 65536) ⌝ }
-{
-    x as u64
-}
-
-// The later of two instants.
-pub fn later(a: u64, b: u64) -> u64
-    ensures { λ r. ⌜ r ≡ max a b ⌝ }
-{
-    if a < b { b } else { a }
-}
 
 // The number of HI jobs.
 pub fn hi_jobs(s: Set) -> usize

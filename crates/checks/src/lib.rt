@@ -1,21 +1,19 @@
 // Refusals 2 to 7 of document 01, and the span.
 ghost use mathlib.Core.Path.{_≡_};
-ghost use Rattle.model.specs.Sets.{view, span};
+ghost use Rattle.model.specs.Sets.{view};
 ghost use Rattle.model.specs.Refusals.{refusal};
 
 mod jobs;
 mod orders;
 mod refusals;
 
-use jobs::later;
-use jobs::wide;
 use model::GOOD;
 use model::Refusal;
 use model::Set;
 use refusals::check_count;
 use refusals::check_jobs;
 use refusals::check_orders;
-use rules::orders::places;
+pub use spans::span_of;
 
 // The first refusal by checks 2 to 7 that applies to the set, with its place; number 0 where none does.
 pub fn refusal_of(s: Set) -> Refusal
@@ -30,21 +28,4 @@ pub fn refusal_of(s: Set) -> Refusal
         return jobs;
     }
     check_orders(s)
-}
-
-// The span: the largest arrival plus the sum of all HI budgets.
-pub fn span_of(s: Set) -> u64
-    ensures { λ r. ⌜ r ≡ span (view s) ⌝ }
-{
-    let n = places(s.count);
-    let mut latest: u64 = 0;
-    let mut work: u64 = 0;
-    let mut i = 0;
-    while i < n {
-        let j = s.jobs[i];
-        latest = later(latest, wide(j.arrival));
-        work += wide(j.hi);
-        i += 1;
-    }
-    latest + work
 }

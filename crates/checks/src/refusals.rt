@@ -18,6 +18,7 @@ use model::SPAN;
 use model::Set;
 use model::TIME;
 use rules::orders::fault_of;
+use spans::span_of;
 
 // Refusal `number` with its place, where it applies.
 fn applies(number: u8, place: u64, wrong: bool) -> Refusal
@@ -67,7 +68,7 @@ pub fn check_jobs(s: Set) -> Refusal
     if budget.number != GOOD {
         return budget;
     }
-    let n = crate::span_of(s);
+    let n = span_of(s);
     applies(SPAN, n, 4096 < n)
 }
 

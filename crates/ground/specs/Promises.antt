@@ -29,7 +29,7 @@ use Rattle.rules.proofs.jobs.breaks.Reads.{Post as breaks}
 use Rattle.rules.proofs.orders.places.Reads.{Post as places}
 use Rattle.rules.proofs.orders.fault_of.Reads.{Post as fault-of}
 use Rattle.checks.proofs.refusal_of.Reads.{Post as refusal-of}
-use Rattle.checks.proofs.span_of.Reads.{Post as span-of}
+use Rattle.spans.proofs.span_of.Reads.{Post as span-of}
 use Rattle.measures.proofs.in_range.Reads.{Post as in-range}
 use Rattle.measures.proofs.outruns.Reads.{Post as outruns}
 use Rattle.measures.proofs.is_enabled.Reads.{Post as is-enabled}

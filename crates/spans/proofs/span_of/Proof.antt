@@ -1,4 +1,4 @@
--- `checks::span_of` meets its contract. The loop's invariant: the latest arrival so far and the largest still ahead are the largest of all, and
+-- `spans::span_of` meets its contract. The loop's invariant: the latest arrival so far and the largest still ahead are the largest of all, and
 -- so for the sum of the HI budgets; each number has 16 bits, so that no sum wraps. Assumes nothing.
 use Prim.Native.Nat.{_+_, _-_, _*_, _≤_, max}
 use mathlib.Core.Path.{_≡_, ap}
@@ -7,8 +7,8 @@ use borrow.Author.Needs.{needs}
 use Rattle.model.specs.Lists.{from, total, largest}
 use Rattle.model.specs.Sets.{members, span, view, blank, job}
 use Rattle.laws.proofs.Members.{job-at, members-from, from-end, total-step, largest-step}
-use Rattle.checks.proofs.span_of.Statement.{statement}
-use Rattle.checks.proofs.span_of.Tie as tie
+use Rattle.spans.proofs.span_of.Statement.{statement}
+use Rattle.spans.proofs.span_of.Tie as tie
 
 abbrev Inv-loop : tie.InvT-loop
 Inv-loop s n latest₀ work₀ i₀ latest work i =
