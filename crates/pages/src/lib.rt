@@ -7,11 +7,7 @@ ghost use Rattle.model.specs.Texts.{decimal};
 ghost use Rattle.model.specs.Printed.{signed};
 ghost use Rattle.pages.specs.Pages.{page, put};
 
-mod lines;
-
-pub use lines::miss_page;
-pub use lines::refused_page;
-pub use lines::with_job;
+pub mod lines;
 
 // The first `length` bytes are to be printed; the others are 0.
 pub struct Page {

@@ -18,7 +18,7 @@ use model::Reading;
 use model::Set;
 use model::Verdict;
 use pages::Page;
-use pages::refused_page;
+use pages::lines::refused_page;
 use plan_text::read;
 
 // The answer to a set that was read: what refuses it, or its verdict.

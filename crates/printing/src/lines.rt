@@ -17,12 +17,12 @@ use model::Miss;
 use model::Set;
 use pages::Page;
 use pages::empty_page;
-use pages::miss_page;
+use pages::lines::miss_page;
+use pages::lines::with_job;
 use pages::with_byte;
 use pages::with_bytes;
 use pages::with_decimal;
 use pages::with_field;
-use pages::with_job;
 
 // The lines of all jobs.
 fn with_jobs(p: Page, s: Set, worsts: [u16; 64]) -> Page
