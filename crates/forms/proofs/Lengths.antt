@@ -1,6 +1,7 @@
 -- How long a well-formed text can be, and why a reader need not see more of a text than that.
 --   line-..-length   == the length of a line, of a job's line, of the lines of jobs, of an order's line
 --   short-texts      == a well-formed text has at most 2,441 bytes;  short-openings: so has what one begins with
+--   opening-end      == so whatever the text, a part of it that some well-formed text begins with ends there
 --   first-bytes      == the answer to a text is the answer to its first k bytes, for any k above 2,441
 --   first-4096       == so it is for the 4,096 bytes that the program reads
 -- Assumes nothing.
@@ -113,7 +114,7 @@ short-openings q (u, w) = omega (arith, short-texts (q ++ u) w, length-append q 
 
 -- a text beyond the bound ------------------------------------------------------------------------------------------------------------
 
-opening-end : (t : List ℕ) (m : ℕ) → m ≤ length t → Opening (take m t) → m ≤ 2441
+pub opening-end : (t : List ℕ) (m : ℕ) → m ≤ length t → Opening (take m t) → m ≤ 2441
 opening-end t m h o = omega (arith, short-openings (take m t) o, length-take-le m t h)
 
 module _ (k : ℕ) (far : 2441 < k) (t : List ℕ) (long : k < length t) where

@@ -3,7 +3,7 @@
 --   form-small     == a set in the form is small
 --   whole          == so it is for every text;  shown: the page holds all of what is printed
 -- Assumes nothing.
-use Prim.Native.Nat.{ℕ, zero, suc, _-_, _^_, _≤_, _<_}
+use Prim.Native.Nat.{ℕ, zero, suc, _-_, _≤_}
 use mathlib.Core.Path.{_≡_, refl, sym, _∙_, ap, subst}
 use mathlib.Core.Bool.{true}
 use mathlib.Core.List.{List, [], _∷_, map, flatMap}
@@ -31,6 +31,7 @@ use Rattle.model.specs.Printed.{fitWord, fitText, unfitText, judgedText, printe
 use Rattle.laws.proofs.Bools.{tests, split}
 use Rattle.laws.proofs.Pigeonhole.{length-cut}
 use Rattle.laws.proofs.Checks.{passes-sound}
+use Rattle.forms.proofs.Lengths.{opening-end}
 use Rattle.pages.specs.declared.Page.{Page}
 use Rattle.pages.specs.Pages.{page}
 use Rattle.pages.proofs.Puts.{page-whole}
@@ -154,15 +155,16 @@ accepted-most t q a =
     (subst Short (sym (a .refusal)) (record { number = omega arith; place = omega arith }))
     (λ e. form-small (q .set) (a .set .0))
 
-refused-text-most : (t : List ℕ) (q : Reading) → Refuses t q → length t < 10 ^ 20 → length (printed q) ≤ 1024
+-- the place is that of an opening, and so at most 2,441
+refused-text-most : (t : List ℕ) (q : Reading) → Refuses t q → length (printed q) ≤ 1024
 unfolding isGood
-refused-text-most t q r h =
+refused-text-most t q r =
     whole-of q
-    (record { number = omega (arith, r .number); place = omega (arith, r .place .prefix) })
+    (record { number = omega (arith, r .number); place = omega (arith, opening-end t (q .refusal .place) (r .place .prefix) (r .place .begins)) })
     (λ e. absurd (omega (tests, eqb-true (q .refusal .number) 0 e, r .number)))
 
-pub whole : (t : List ℕ) (q : Reading) → Reads t q → length t < 10 ^ 20 → length (printed q) ≤ 1024
-whole t q r h = ⊎-elim (accepted-most t q) (λ d. refused-text-most t q d h) r
+pub whole : (t : List ℕ) (q : Reading) → Reads t q → length (printed q) ≤ 1024
+whole t q r = ⊎-elim (accepted-most t q) (refused-text-most t q) r
 
-pub shown : (t : List ℕ) (q : Reading) (p : Page) → Reads t q → length t < 10 ^ 20 → p ≡ page (printed q) → take (p .length) (p .bytes) ≡ printed q
-shown t q p r h e = ap (λ x. take (x .length) (x .bytes)) e ∙ page-whole (printed q) (whole t q r h)
+pub shown : (t : List ℕ) (q : Reading) (p : Page) → Reads t q → p ≡ page (printed q) → take (p .length) (p .bytes) ≡ printed q
+shown t q p r e = ap (λ x. take (x .length) (x .bytes)) e ∙ page-whole (printed q) (whole t q r)
