@@ -1,5 +1,6 @@
 -- What the promises of the libraries come to. A reader wants OneAnswer, Calls and Room; AtP shows that their premises are met.
 pub mod OneAnswer
+pub mod OneText
 pub mod Answers
 pub mod Rows
 pub mod Calls

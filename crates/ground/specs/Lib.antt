@@ -1,2 +1,3 @@
 -- The words that the statements of proofs/ need beside theory's.
 pub mod Promises
+pub mod Texts

@@ -106,25 +106,25 @@ abbrev pub MarginOf : ℕ → ℕ → ℤ → Type 0
 MarginOf d w x = margin-of tt (d, (w, tt)) x (d, (w, tt))
 
 -- Where a lent slice stands: its address, and the name by which the logic follows what it holds. `slice p l`: the slice at p, which holds l.
-abbrev Place : Type 0
-Place = (ℕ × ℕ) × GName
+abbrev pub Spot : Type 0
+Spot = (ℕ × ℕ) × GName
 
-abbrev slice : {A : Type 0} → Place → List A → RefT (List A)
+abbrev pub slice : {A : Type 0} → Spot → List A → RefT (List A)
 slice p l = record { ptr = p .0; name = p .1; now = l }
 
 -- Wherever the slices stand, and however long they are lent.
 abbrev pub Picks : List ℕ → List ℕ → List Bool → ℕ → Pick → Type 0
 Picks o a d t x =
-    (κs : Lfts 3) × (p q r : Place) ×
+    (κs : Lfts 3) × (p q r : Spot) ×
     pick κs (slice p o, (slice q a, (slice r d, (t, tt)))) x (slice p o, (slice q a, (slice r d, (t, tt))))
 
 abbrev pub Parts : List ℕ → ℕ → List ℕ → Type 0
-Parts l t x = (κs : Lfts 1) × (p q : Place) × part κs (slice p l, (t, tt)) (slice q x) (slice p l, (t, tt))
+Parts l t x = (κs : Lfts 1) × (p q : Spot) × part κs (slice p l, (t, tt)) (slice q x) (slice p l, (t, tt))
 
 abbrev pub PartRefusal : List ℕ → ℕ → Refusal → Type 0
-PartRefusal l t x = (κs : Lfts 1) × (p : Place) × part-refusal κs (slice p l, (t, tt)) x (slice p l, (t, tt))
+PartRefusal l t x = (κs : Lfts 1) × (p : Spot) × part-refusal κs (slice p l, (t, tt)) x (slice p l, (t, tt))
 
 abbrev pub MakesTables : Set → List ℕ → List ℕ → Refusal → List ℕ → List ℕ → Type 0
 MakesTables s lo hi x loAfter hiAfter =
-    (κs : Lfts 2) × (p q : Place) ×
+    (κs : Lfts 2) × (p q : Spot) ×
     make-tables κs (s, (slice p lo, (slice q hi, tt))) x (s, (slice p loAfter, (slice q hiAfter, tt)))
