@@ -5,4 +5,6 @@ pub mod Answers
 pub mod Rows
 pub mod Calls
 pub mod Room
+pub mod Printed
+pub mod Texts
 pub mod AtP

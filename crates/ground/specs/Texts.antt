@@ -2,11 +2,13 @@
 -- Promises.
 --   Reading t x          == `read` may answer x for the bytes t, by its promise
 --   Answering t x        == `answer` of the printing may answer the page x for the bytes t
+--   shown x              == what the page x says is to be printed: the first bytes of its array, as many as its length
 --   Numbering t a l m b x  == `number`, at the place a, from l to m, with the byte b behind it;  Expecting, Ending: given bytes
 --   LevelNumber, JobOf, NoJob, NoSet, MadeOf, RefusedAt   == those of the readings
 --   EmptyPage, WithByte, WithBytes, WithDecimal, WithField, WithMargin, RefusedPage, MissPage, WithJob   == those of the pages
 use Prim.Native.Nat.{ℕ}
 use mathlib.Core.List.{List}
+use lib.ListN.{take}
 use contract.Lifetimes.{Lfts}
 use Rattle.model.specs.declared.Level.{Level}
 use Rattle.model.specs.declared.Job.{Job}
@@ -44,6 +46,9 @@ Reading t x = (κs : Lfts 1) × (p : Spot) × read κs (slice p t, tt) x (slice 
 
 abbrev pub Answering : List ℕ → Page → Type 0
 Answering t x = (κs : Lfts 1) × (p : Spot) × answer κs (slice p t, tt) x (slice p t, tt)
+
+abbrev pub shown : Page → List ℕ
+shown x = take (x .length) (x .bytes)
 
 abbrev pub Numbering : List ℕ → ℕ → ℕ → ℕ → ℕ → Field → Type 0
 Numbering t a l m b x = (κs : Lfts 1) × (p : Spot) × number κs (slice p t, (a, (l, (m, (b, tt))))) x (slice p t, (a, (l, (m, (b, tt)))))
