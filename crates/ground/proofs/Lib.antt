@@ -8,3 +8,4 @@ pub mod Room
 pub mod Printed
 pub mod Texts
 pub mod AtP
+pub mod TextAtP
