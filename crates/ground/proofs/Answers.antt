@@ -1,6 +1,7 @@
 -- What an answer says of the set.
 --   good-first      == a first refusal that is good is refusal 0 with place 0
 --   found-passes    == a judgement that finds a verdict says that the set passes the checks; and the verdict and the times beside it are the model's
+--   unfit-misses    == of an unfit set some run misses what it requires;  misses-unfit: and then it is unfit
 --   run-good        == a run of a set that passes is not refused: the finishes are those of the run
 -- Assumes nothing.
 use Prim.Native.Nat.{ℕ}
@@ -13,16 +14,21 @@ use Rattle.model.specs.declared.Refusal.{Refusal}
 use Rattle.model.specs.declared.Judged.{Judged}
 use Rattle.model.specs.declared.Judgement.{Judgement}
 use Rattle.model.specs.declared.Judgement.the-variants.{Refused, Found}
+use Rattle.model.specs.declared.Miss.{Miss}
 use Rattle.model.specs.declared.Verdict.{Verdict}
-use Rattle.model.specs.Sets.{View, view}
-use Rattle.model.specs.Runs.{time, mark, outcomeIn, switchIn, limit, inRange}
-use Rattle.model.specs.Scenarios.{places, verdict, timesBeside}
+use Rattle.model.specs.declared.Verdict.the-variants.{Fit, Unfit}
+use Rattle.model.specs.Sets.{View, view, members}
+use Rattle.model.specs.Runs.{time, mark, outcomeIn, switchIn, missed, meets, limit, inRange}
+use Rattle.model.specs.Scenarios.{places, timesOf, verdict, timesBeside}
 use Rattle.model.specs.Refusals.{good, isGood, firstOf, checks, refusal, checkRun}
 use Rattle.model.specs.Answers.{unless, judged, ran}
 use Rattle.theory.specs.Words.{Passes, RunOf}
-use Rattle.theory.proofs.Views.{run-of}
+use Rattle.theory.proofs.Views.{sound-of, run-of}
+use Rattle.theory.proofs.Results.{unfit-is-true, fit-is-exact}
 use Rattle.theory.proofs.Passes.{lowest-no}
 use Rattle.laws.proofs.Bools.{split, clash, and-i, not-i-false}
+use Rattle.laws.proofs.Lists.{any-i}
+use Rattle.laws.proofs.Places.{members-i}
 
 good-first : (l : List Refusal) → isGood (firstOf l) ≡ true → firstOf l ≡ good
 unfolding firstOf
@@ -66,6 +72,27 @@ found-passes s r x e f =
     let y : verdict v ≡ x = ap (foundOf x) (sym (ap judgementOf h) ∙ f) in
     (good-passes s t, y, ap (λ (k : Judged). k .times) h ∙ ap (timesBeside v) y))
     (λ n. clash (ap isFound f) (ap (λ (k : Judged). isFound (k .judgement)) e ∙ judged-bad v n))
+
+-- an unfit set ------------------------------------------------------------------------------------------------------------------------
+
+abbrev MissedRun : Set → Type 0
+MissedRun s = (c : List ℕ) × RunOf s c × (meets (view s) c ≡ false)
+
+pub unfit-misses : (s : Set) → Passes s → (m : Miss) → verdict (view s) ≡ Unfit m → MissedRun s
+unfolding meets
+unfit-misses s h m u =
+    let v = view s in
+    let c = timesOf v (m .scenario) in
+    let (run, needed, ends, late, x) = unfit-is-true s h m u in
+    let j = members-i (v .policy) (m .job) (sound-of s h .ordered .room) (x .job) in
+    (c, run, not-i-false (any-i (missed v c) (members (v .policy)) (m .job) j (x .misses)))
+
+pub misses-unfit : (s : Set) → Passes s → (c : List ℕ) → RunOf s c → meets (view s) c ≡ false → (m : Miss) × (verdict (view s) ≡ Unfit m)
+misses-unfit s h c run f = by-verdict (verdict (view s)) refl
+  where
+    by-verdict : (x : Verdict) → verdict (view s) ≡ x → (m : Miss) × (verdict (view s) ≡ Unfit m)
+    by-verdict Fit e = clash (fit-is-exact s h .0 e c run) f
+    by-verdict (Unfit m) e = (m, e)
 
 -- the run -----------------------------------------------------------------------------------------------------------------------------
 

@@ -1,12 +1,12 @@
 -- What theory says of the answers of these calls. A premise is an answer that the function's own promise admits (specs/Promises), and nothing is asked
 -- of the set: that it passes the checks is read off the answer.
---   fit-call, fit-in-time  == what it means that this call judged a set fit
---   unfit-call             == what it means that this call judged it unfit
---   margins-call           == what it means that a margin is negative
+--   fit-call, fit-in-time    == what it means that this call judged a set fit
+--   missed-call, unfit-call  == what it means that this call judged it unfit
+--   margins-call             == what it means that a margin is negative
 -- Assumes nothing.
 use Prim.Native.Nat.{ℕ, _≤_, _<_}
 use mathlib.Core.Path.{_≡_, sym, _∙_, ap, subst}
-use mathlib.Core.Bool.{true}
+use mathlib.Core.Bool.{true, false}
 use mathlib.Core.List.{List, []}
 use mathlib.Core.Logic.{_↔_}
 use lib.IntN.{ℤ, pos}
@@ -30,7 +30,7 @@ use Rattle.theory.proofs.Views.{sound-of}
 use Rattle.theory.proofs.Results.{unfit-is-true, fit-is-exact, demand-three}
 use Rattle.laws.proofs.Turns.{place-time}
 use Rattle.ground.specs.Promises.{Judges, FinishRows, Margins, Executes}
-use Rattle.ground.proofs.Answers.{judged-good, found-passes, run-good}
+use Rattle.ground.proofs.Answers.{judged-good, found-passes, unfit-misses, misses-unfit, run-good}
 use Rattle.ground.proofs.Rows.{margins-late}
 
 -- A set is judged fit by this call if and only if it passes the checks and every run of it meets what it requires.
@@ -41,6 +41,17 @@ fit-call s r p = (
   λ f. let (h, v, t) = found-passes s r Fit p f in (h, fit-is-exact s h .0 v),
   λ (h, all).
       ap (λ (x : Judged). x .judgement) (p ∙ judged-good (view s) (ap isGood h)) ∙ ap Found (fit-is-exact s h .1 all),
+)
+
+-- It is judged unfit by this call if and only if it passes the checks and some run of it does not meet what it requires.
+pub missed-call : (s : Set) (r : Judged) → Judges s r
+    → ((m : Miss) × (r .judgement ≡ Found (Unfit m))) ↔ (Passes s × ((c : List ℕ) × RunOf s c × (meets (view s) c ≡ false)))
+unfolding isGood good
+missed-call s r p = (
+  λ (m, f). let (h, u, t) = found-passes s r (Unfit m) p f in (h, unfit-misses s h m u),
+  λ (h, (c, run, f)).
+      let e = ap (λ (x : Judged). x .judgement) (p ∙ judged-good (view s) (ap isGood h)) in
+      let (m, u) = misses-unfit s h c run f in (m, e ∙ ap Found u),
 )
 
 -- Demand 3, of this call. Take a set that it judged fit, and let every job run for any whole time from one unit to its largest budget. Then every HI

@@ -1,4 +1,5 @@
--- What the promises of the libraries come to. A reader wants OneAnswer, Calls and Room; AtP shows that their premises are met.
+-- What the promises of the libraries come to. A reader wants OneAnswer, Calls and Room, and of the text OneText and Texts; AtP and TextAtP show that
+-- their premises are met.
 pub mod OneAnswer
 pub mod OneText
 pub mod Answers

@@ -29,7 +29,8 @@ use Rattle.model.specs.Texts.{digit, spelled, decimal, fields, line, levelNumbe
 use Rattle.model.specs.Texts.{InForm, TextOf, WellFormed, Place, noSet}
 use Rattle.model.specs.Printed.{fitWord, unfitWord, refusedWord, signed, scenarioNumber, refusedText, fitText, unfitText, judgedText, printed}
 use Rattle.model.proofs.Table.{P, jobsOfP}
-use Rattle.forms.specs.Forms.{scan, plan, sections, jobs, order, count, bytes, row as formRow, jobLimits, then, number, more, begins, grows, space, lf, jobOf, levelOf}
+use Rattle.forms.specs.Forms.{scan, plan, sections, jobs, order, count, bytes, row as formRow, jobLimits}
+use Rattle.forms.specs.Forms.{then, number, more, begins, grows, space, lf, jobOf, levelOf}
 use Rattle.forms.specs.Forms.Scanned.{stuck}
 use Rattle.forms.proofs.Reader.{stuck-not, stuck-place}
 use Rattle.pages.specs.declared.Page.{Page}
@@ -139,7 +140,9 @@ abbrev longer : List ℕ
 longer = textOfP ++ (10 ∷ [])
 
 longer-stuck : scan plan longer ≡ stuck (10 ∷ [])
-unfolding scan then number more begins grows plan sections jobs order count bytes formRow jobLimits space lf spelled decimal digit jobOf levelOf job ones levelNumber
+unfolding
+    scan then number more begins grows plan sections jobs order count bytes formRow jobLimits space lf jobOf levelOf
+    spelled decimal digit job ones levelNumber
 longer-stuck = refl
 
 pub longer-at-P : (WellFormed longer → ⊥) × Place longer 47

@@ -1,19 +1,19 @@
 -- What it means that these calls read a text, and print an answer to it. A premise is an answer that the function's own promise admits (specs/Texts
 -- and specs/Promises); nothing is asked of the text, which is any list of numbers, of any length.
---   accepted-call         == a text is accepted exactly if it is of the form, and then its set is read
---   one-set, back-call    == a text has one set, and whoever writes a set down gets it back
---   refused-call          == what is answered for any other text
---   short-text, short-place        == no text of the form is longer than 2,441 bytes, and no place lies behind them
---   first-bytes-read, first-bytes-shown   == the first 4,096 bytes of an input give the answer to the whole
---   printed-..            == what is printed, by the set read and the answers of the library: no-form, refused, unfit, fit
---   says-fit              == what the word FIT is worth
---   some-reading, some-page   == every text has an answer of either call
+--   accepted-call                        == a text is accepted exactly if it is of the form, and then its set is read
+--   one-set, back-call                   == a text has one set, and whoever writes a set down gets it back
+--   refused-call                         == what is answered for any other text
+--   short-text, short-place              == no text of the form is longer than 2,441 bytes, and no place lies behind them
+--   first-bytes-read, first-bytes-shown  == the first 4,096 bytes of an input give the answer to the whole
+--   some-reading, some-page              == every text has an answer, of either call
+--   printed-..                           == what is printed, by the set read and the library's answers: no-form, refused, unfit, fit
+--   says-fit, says-unfit, says-refused   == what the first word is worth
 -- Assumes nothing.
 use Prim.Native.Nat.{ℕ, _≤_}
-use mathlib.Core.Path.{_≡_, refl, sym, _∙_, ap, subst}
-use mathlib.Core.Bool.{true}
+use mathlib.Core.Path.{_≡_, refl, _∙_, ap}
+use mathlib.Core.Bool.{true, false}
 use mathlib.Core.List.{List, [], _∷_, _++_, map, flatMap}
-use mathlib.Core.Logic.{⊎-elim, inl, inr, _↔_}
+use mathlib.Core.Logic.{⊎-elim, _↔_}
 use native.Mathlib.Omega.{arith}
 use lib.IntN.{ℤ, pos}
 use lib.ListN.{length, take}
@@ -22,7 +22,6 @@ use Rattle.model.specs.declared.Refusal.{Refusal}
 use Rattle.model.specs.declared.Miss.{Miss}
 use Rattle.model.specs.declared.Verdict.the-variants.{Fit, Unfit}
 use Rattle.model.specs.declared.Judged.{Judged}
-use Rattle.model.specs.declared.Judgement.{Judgement}
 use Rattle.model.specs.declared.Judgement.the-variants.{Refused, Found}
 use Rattle.model.specs.declared.Reading.{Reading as ReadingOf}
 use Rattle.model.specs.Lists.{at, numbers}
@@ -42,15 +41,15 @@ use Rattle.pages.specs.Pages.{page}
 use Rattle.ground.specs.Promises.{Judges, SpanOf, WorstFinishes, Margins}
 use Rattle.ground.specs.Texts.{Reading, Answering, shown}
 use Rattle.ground.proofs.Answers.{found-passes}
-use Rattle.ground.proofs.Calls.{fit-call}
-use Rattle.ground.proofs.Printed.{shown-is, refused-text, read-text, no-fit-word, fit-word, fit-begins, fit-text, times-text}
+use Rattle.ground.proofs.Calls.{fit-call, missed-call}
+use Rattle.ground.proofs.Printed.{shown-is, refused-text, read-text, fit-word, unfit-word, refused-word, fit-text, times-text}
 
 -- what is read ------------------------------------------------------------------------------------------------------------------------
 
--- An answer 0 of the reader says: the text is of the form of document 01. Every text of the form gets it, and no other does. And the set that
--- comes with it is the one that the text is the text of, with nothing left in the room beyond its counts.
+-- Refusal 0 from the reader says that the text is of the form of document 01: every text of the form gets it, and no other does. The set that comes
+-- with it is the one that the text is the text of, with nothing left in the room beyond its counts.
 pub accepted-call : (t : List ℕ) (r : ReadingOf) → Reading t r → ((r .refusal ≡ good) ↔ WellFormed t) × (r .refusal ≡ good → TextOf (r .set) t)
-accepted-call t r (κs, p, a) = ((λ g. (r .set, is-read g), λ w. not-refused w), is-read)
+accepted-call t r (κs, p, a) = ((λ g. (r .set, is-read g), not-refused), is-read)
   where
     refused-bad : Refuses t r → r .refusal ≡ good → ⊥
     refused-bad d g = unfold good in let e : r .refusal .number ≡ 0 = ap (λ (x : Refusal). x .number) g in omega (arith, e, d .number)
@@ -88,8 +87,8 @@ short-text = short-texts
 pub short-place : (t : List ℕ) (n : ℕ) → Place t n → n ≤ 2441
 short-place t n p = opening-end t n (p .prefix) (p .begins)
 
--- So a program that looks at the first 4,096 bytes of an input and at no other reads, and prints, what it would for the whole of it, however long
--- that is.
+-- So a program that looks at no more than the first 4,096 bytes of an input reads what it would read of the whole, and prints what it would print,
+-- however long the input is.
 pub first-bytes-read : (t : List ℕ) (r : ReadingOf) → Reading t r ↔ Reading (take 4096 t) r
 first-bytes-read t r = let (to, back) = first-4096 t r in (λ (κs, p, a). (κs, p, to a), λ (κs, p, a). (κs, p, back a))
 
@@ -148,29 +147,25 @@ module _ (t : List ℕ) (q : ReadingOf) (x : Page) (a : Reading t q) (b : Answer
         ∙ ap (λ j. judgedText (view (q .set)) j (r .times)) f
         ∙ fit-text (q .set) (found-passes (q .set) r Fit p f .0) n c m d e g
 
--- What the first word is worth, from the bytes read to the runs of the aircraft. What is printed begins with FIT if and only if the text is the
--- text of a set, this set passes the checks, and every run of it meets what it requires.
+-- What the first word is worth, from the bytes that are read to the runs of the aircraft. What is printed begins with FIT if and only if the text is
+-- the text of a set, this set passes the checks, and every run of it meets what it requires.
 pub says-fit : (t : List ℕ) (x : Page) → Answering t x
     → (take 3 (shown x) ≡ fitWord) ↔ ((s : Set) × TextOf s t × Passes s × ((c : List ℕ) → RunOf s c → meets (view s) c ≡ true))
-says-fit t x (κs, p, (q, a, e)) = (
-  λ f.
-      ⊎-elim
-      (λ (d : Accepts t q).
-      let j = judged (view (q .set)) in
-      let z = sym (ap (take 3) (shows ∙ read-text q j (d .refusal) refl)) ∙ f in
-      let (h, all) = fit-call (q .set) j refl .0 (fit-word (view (q .set)) (j .judgement) (j .times) z) in
-      (q .set, d .set, h, all))
-      (λ (d : Refuses t q). absurd (no-fit-word (decimal 1) (decimal (q .refusal .place)) (sym (ap (take 3) (shows ∙ refused-text q (d .number))) ∙ f)))
-      a,
-  λ (s, w, h, all).
-      let (g, i) = back-call t q s (κs, p, a) w in
-      let j = judged (view s) in
-      ap (take 3) (shows ∙ ap printed (whole g i) ∙ read-text (record { refusal = good; set = s }) j refl refl)
-      ∙ fit-begins (view s) (j .judgement) (j .times) (fit-call s j refl .1 (h, all)),
-)
-  where
-    shows : shown x ≡ printed q
-    shows = shown-is t q x (κs, p, a) (κs, p, (q, a, e))
+says-fit t x b =
+    let (to, back) = fit-word t x b in (
+      λ f. let (s, w, i) = to f in let (h, all) = fit-call s (judged (view s)) refl .0 i in (s, w, h, all),
+      λ (s, w, h, all). back (s, w, fit-call s (judged (view s)) refl .1 (h, all)),
+    )
 
-    whole : {s : Set} → q .refusal ≡ good → q .set ≡ s → q ≡ record { refusal = good; set = s }
-    whole g i = λ k. record { refusal = g k; set = i k }
+-- It begins with UNFIT if and only if the text is the text of a set, this set passes the checks, and some run of it does not meet what it requires.
+pub says-unfit : (t : List ℕ) (x : Page) → Answering t x
+    → (take 5 (shown x) ≡ unfitWord) ↔ ((s : Set) × TextOf s t × Passes s × ((c : List ℕ) × RunOf s c × (meets (view s) c ≡ false)))
+says-unfit t x b =
+    let (to, back) = unfit-word t x b in (
+      λ f. let (s, w, i) = to f in let (h, some) = missed-call s (judged (view s)) refl .0 i in (s, w, h, some),
+      λ (s, w, h, some). back (s, w, missed-call s (judged (view s)) refl .1 (h, some)),
+    )
+
+-- It begins with REFUSED if and only if the text is not that of a set which passes the checks: either it is not of the form, or its set does not pass.
+pub says-refused : (t : List ℕ) (x : Page) → Answering t x → (take 7 (shown x) ≡ refusedWord) ↔ ((s : Set) → TextOf s t → Passes s → ⊥)
+says-refused = refused-word
