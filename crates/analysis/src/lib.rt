@@ -1,82 +1,12 @@
-// The analysis of document 01: the pick, one run, the scenarios, finish rows, the verdict, worst finishes and margins, the two tables, the part.
+// The analysis of document 01, as one library: the pick, one run, the verdict, finish rows, worst finishes and margins, the two tables, the part.
 // Every function is total. Each but the pick and the part refuses by checks 2 to 7 first.
-ghost use mathlib.Core.Path.{_≡_};
-ghost use Rattle.model.specs.Sets.{view};
-ghost use Rattle.model.specs.Refusals.{refusal};
-ghost use Rattle.model.specs.Answers.{judged, finishRows, worsts as worstsOf, margins as marginsOf};
-
-mod rows;
-mod scenario;
-
-use checks::refusal_of;
-use columns::columns_of;
-use model::GOOD;
-use model::Judged;
-use model::Judgement;
-use model::Refusal;
-use model::Set;
 pub use parts::part;
 pub use parts::part_refusal;
 pub use picks::pick;
-use rows::margins_of;
-use rows::rows_of;
-use rows::worsts_of;
-use rows::zero_rows;
 pub use runs::execute;
 pub use runs::make_tables;
-use scenario::search;
-
-// The judgement of a set, with the running times of the failing scenario beside it.
-pub fn judge(s: Set) -> Judged
-    ensures { λ r. ⌜ r ≡ judged (view s) ⌝ }
-{
-    let refusal = refusal_of(s);
-    if refusal.number != GOOD {
-        return Judged {
-            judgement: Judgement::Refused(refusal),
-            times: [0u16; 64],
-        };
-    }
-    search(s, columns_of(s))
-}
-
-// The finishes of all scenarios: row 0 is LO, and row j that of HI job j.
-pub fn finish_rows(s: Set) -> [[u16; 64]; 65]
-    ensures { λ r. ⌜ r ≡ finishRows (view s) ⌝ }
-{
-    let refusal = refusal_of(s);
-    if refusal.number != GOOD {
-        return zero_rows();
-    }
-    rows_of(s, columns_of(s))
-}
-
-// The refusal that comes with the finish rows, the worst finishes and the margins.
-pub fn rows_refusal(s: Set) -> Refusal
-    ensures { λ r. ⌜ r ≡ refusal (view s) ⌝ }
-{
-    refusal_of(s)
-}
-
-// Each job's worst finish.
-pub fn worst_finishes(s: Set) -> [u16; 64]
-    ensures { λ r. ⌜ r ≡ worstsOf (view s) ⌝ }
-{
-    let refusal = refusal_of(s);
-    if refusal.number != GOOD {
-        return [0u16; 64];
-    }
-    worsts_of(s, columns_of(s))
-}
-
-// Each job's margin: its deadline minus its worst finish.
-pub fn margins(s: Set) -> [i32; 64]
-    ensures { λ r. ⌜ r ≡ marginsOf (view s) ⌝ }
-{
-    let refusal = refusal_of(s);
-    if refusal.number != GOOD {
-        return [0i32; 64];
-    }
-    let k = columns_of(s);
-    margins_of(k, worsts_of(s, k))
-}
+pub use verdicts::finish_rows;
+pub use verdicts::judge;
+pub use verdicts::margins;
+pub use verdicts::rows_refusal;
+pub use verdicts::worst_finishes;

@@ -40,7 +40,7 @@ span-of-one s x y p q = one p q
 pub columns-of-one : (s : Set) (x y : Columns) → ColumnsOf s x → ColumnsOf s y → x ≡ y
 columns-of-one s x y p q = one p q
 
--- analysis, runs, picks and parts ----------------------------------------------------------------------------------------------------
+-- verdicts, runs, picks and parts ----------------------------------------------------------------------------------------------------
 
 -- Who is picked, from what the three lent slices hold: a job, or idle.
 pub pick-one : (o a : List ℕ) (d : List Bool) (t : ℕ) (x y : Pick) → Picks o a d t x → Picks o a d t y → x ≡ y

@@ -37,11 +37,11 @@ use Rattle.measures.proofs.misses.Reads.{Post as misses}
 use Rattle.measures.proofs.worse.Reads.{Post as worse}
 use Rattle.measures.proofs.margin_of.Reads.{Post as margin-of}
 use Rattle.columns.proofs.columns_of.Reads.{Post as columns-of}
-use Rattle.analysis.proofs.judge.Reads.{Post as judge}
-use Rattle.analysis.proofs.finish_rows.Reads.{Post as finish-rows}
-use Rattle.analysis.proofs.rows_refusal.Reads.{Post as rows-refusal}
-use Rattle.analysis.proofs.worst_finishes.Reads.{Post as worst-finishes}
-use Rattle.analysis.proofs.margins.Reads.{Post as margins}
+use Rattle.verdicts.proofs.judge.Reads.{Post as judge}
+use Rattle.verdicts.proofs.finish_rows.Reads.{Post as finish-rows}
+use Rattle.verdicts.proofs.rows_refusal.Reads.{Post as rows-refusal}
+use Rattle.verdicts.proofs.worst_finishes.Reads.{Post as worst-finishes}
+use Rattle.verdicts.proofs.margins.Reads.{Post as margins}
 use Rattle.runs.proofs.execute.Reads.{Post as execute}
 use Rattle.picks.proofs.pick.Reads.{Post as pick}
 use Rattle.parts.proofs.part.Reads.{Post as part}

@@ -1,7 +1,0 @@
--- Laws that the proofs of the analysis cite.
-pub mod Raised
-pub mod Search
-pub mod Scenarios
-pub mod Found
-pub mod RowLaws
-pub mod AnswerLaws

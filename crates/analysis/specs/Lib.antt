@@ -1,3 +1,0 @@
--- What the private functions of the analysis promise. The public ones promise definitions of the model.
-pub mod Tests
-pub mod Rows
