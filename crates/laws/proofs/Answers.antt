@@ -1,13 +1,14 @@
 -- What the number of a refusal says, and what a run that is not refused answers.
 --   good-of, bad-of   == the set is not refused where the number is 0, and is where it is not
+--   times-pass        == times in their range pass check 9
 --   ran-good          == a run whose times pass check 9 answers its finishes and its switch
 --   ran-times         == so does one whose times lie in their range
 -- Assumes nothing.
 use Prim.Native.Nat.{ℕ}
-use mathlib.Core.Path.{_≡_, refl, sym, _∙_, ap}
+use mathlib.Core.Path.{_≡_, refl}
 use mathlib.Core.Bool.{true, false, not}
 use mathlib.Core.List.{List}
-use borrow.Author.Tests.{eq-eqb, ne-eqb}
+use borrow.Author.Tests.{eq-eqb}
 use Rattle.model.specs.declared.Refusal.{Refusal}
 use Rattle.model.specs.Lists.{first}
 use Rattle.model.specs.Sets.{View, members}
@@ -19,16 +20,15 @@ use Rattle.laws.proofs.Bools.{not-i-false}
 use Rattle.laws.proofs.Lists.{first-zero}
 use Rattle.laws.proofs.Places.{members-e}
 use Rattle.laws.proofs.Checks.{in-range}
+use Rattle.laws.proofs.Refusals.{number-good, number-bad}
 use Rattle.laws.proofs.Ends.{Times}
 
 module _ (v : View) (r : Refusal) (e : r ≡ refusal v) where
   pub good-of : r .number ≡ 0 → isGood (refusal v) ≡ true
-  unfolding isGood
-  good-of z = eq-eqb (refusal v .number) 0 (ap (λ (x : Refusal). x .number) (sym e) ∙ z)
+  good-of = number-good (refusal v) r e
 
   pub bad-of : (r .number ≡ 0 → ⊥) → isGood (refusal v) ≡ false
-  unfolding isGood
-  bad-of n = ne-eqb (refusal v .number) 0 (λ z. n (ap (λ (x : Refusal). x .number) e ∙ z))
+  bad-of = number-bad (refusal v) r e
 
 module _ (v : View) (c : List ℕ) (g : isGood (refusal v) ≡ true) where
   pub ran-good : checkRun v c ≡ good
@@ -36,7 +36,7 @@ module _ (v : View) (c : List ℕ) (g : isGood (refusal v) ≡ true) where
   unfolding ran unless firstOf isGood good
   ran-good e = rw g (rw e refl)
 
-  times-pass : Times v c → checkRun v c ≡ good
+  pub times-pass : Times v c → checkRun v c ≡ good
   unfolding checkRun lowest placed applies
   times-pass r =
       let none = first-zero (λ j. not (inRange v c j)) (members (v .policy))

@@ -1,6 +1,7 @@
 -- What the checks of document 01 say of a set that passes them, and of a run that does.
 --   hi-jobs-mem, hi-jobs-i  == the HI jobs are those of level HI that take part
 --   fault-none              == an order without a fault names only whom it may, and nobody twice
+--   first-good, applies-not == what it says that the first refusal of a list, or one check, is good
 --   Passes v                == each of checks 2 to 7 is good;  checks-pass: so it is where the refusal is good
 --   counts-right            == what check 2 says: N from 1 to 64, and the orders' counts
 --   view-placed             == the jobs of a set are places, where N is at most 64
@@ -46,11 +47,11 @@ hi-jobs-i v j room a k = only-i (critical (v .policy)) (members (v .policy)) j (
 
 -- one check --------------------------------------------------------------------------------------------------------------------------
 
-first-good : (r : Refusal) (l : List Refusal) → isGood (firstOf (r ∷ l)) ≡ true → (isGood r ≡ true) × (isGood (firstOf l) ≡ true)
+pub first-good : (r : Refusal) (l : List Refusal) → isGood (firstOf (r ∷ l)) ≡ true → (isGood r ≡ true) × (isGood (firstOf l) ≡ true)
 unfolding firstOf
 first-good r l h = split (isGood r) (λ t. (t, rw t at h)) (λ f. clash (rw f at h) f)
 
-applies-not : (n k : ℕ) (b : Bool) → isGood (applies n k b) ≡ true → 1 ≤ n → b ≡ false
+pub applies-not : (n k : ℕ) (b : Bool) → isGood (applies n k b) ≡ true → 1 ≤ n → b ≡ false
 unfolding isGood applies
 applies-not n k b h s = split b (λ t. absurd (omega (arith, eqb-true n 0 (rw t at h)))) (λ f. f)
 

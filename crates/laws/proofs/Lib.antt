@@ -12,6 +12,7 @@ pub mod Runs
 pub mod Finishes
 pub mod Sound
 pub mod Checks
+pub mod Refusals
 pub mod Ends
 pub mod Turns
 pub mod Outcomes

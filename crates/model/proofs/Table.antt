@@ -47,7 +47,7 @@ use Rattle.model.specs.Refusals.{good, isGood, applies, placed, firstOf,
 use Rattle.model.specs.Refusals.{budgetWrong, checkBudget, checkSpan, checkLoOrder, isHiJob, checkHiOrder, checks, refusal}
 use Rattle.model.specs.Refusals.{checkRoom, checkRun, checkInstant}
 use Rattle.model.specs.Answers.{unless, judged as judgedOf, finishRows as rowsOf, worsts as worstsOf, margins as marginsOf, ran as ranOf}
-use Rattle.model.specs.Answers.{tablesRefusal, loTableIn, hiTableIn}
+use Rattle.model.specs.Answers.{tablesRefusal, loTableIn, hiTableIn, slotsRefusal, slotsIn}
 use Rattle.model.specs.Texts.{digit, spelled, decimal, fields, line, levelNumber, jobNumbers, orderLine, jobsOf, textOf}
 use Rattle.model.specs.Printed.{fitWord, unfitWord, refusedWord, signed, scenarioNumber, refusedText, fitText, unfitText, judgedText}
 use Rattle.model.specs.Printed.{printed}
@@ -132,6 +132,8 @@ pub data Clause : Type 0 where
   run : Set → List ℕ → List Outcome → Switch → ℕ → Clause
   -- who gets each slot of that run
   slots : Set → List ℕ → List ℕ → Clause
+  -- what a table lent for those slots holds afterwards, and the answer
+  slotsLent : Set → List ℕ → List ℕ → List ℕ → Refusal → Clause
   -- the text of the set
   texts : Set → List ℕ → Clause
   -- what the program prints for it
@@ -148,7 +150,7 @@ unfolding
     tableOf loSlot loTable enabled hiPick hiHadAt hiSlot hiTable part
     good isGood applies placed firstOf lowest faultFrom fault checkCount timeWrong checkTime budgetWrong checkBudget checkSpan
     checkLoOrder isHiJob checkHiOrder checks refusal checkRoom checkRun checkInstant
-    unless judgedOf rowsOf worstsOf marginsOf ranOf tablesRefusal loTableIn hiTableIn
+    unless judgedOf rowsOf worstsOf marginsOf ranOf tablesRefusal loTableIn hiTableIn slotsRefusal slotsIn
     flatMap digit spelled decimal fields line levelNumber jobNumbers orderLine jobsOf textOf
     fitWord unfitWord refusedWord signed scenarioNumber refusedText fitText unfitText judgedText printed
 holds (checked s r) = refusal (view s) ≡ r
@@ -168,6 +170,7 @@ holds (run s c l x j) =
     (lateIn (view s) c ≡ j) ×
     (meets (view s) c ≡ eqb j 0)
 holds (slots s c l) = map (slotAt (view s .policy) c) (from 0 (span (view s))) ≡ l
+holds (slotsLent s c table made r) = (slotsIn (view s) c table ≡ made) × (slotsRefusal (view s) c (length table) ≡ r)
 holds (texts s t) = textOf s ≡ t
 holds (prints s l) = printed (record { refusal = good; set = s }) ≡ l
 
@@ -283,6 +286,10 @@ table =
     lent tardy (room 3) (room 4) (room 3) (room 4) (answer 8 4) ∷
     lent tardy (room 4) (room 3) (room 4) (room 3) (answer 8 4) ∷
     lent (Q 2) (room 1) (room 12) (room 1) (room 12) (answer 4 3) ∷
+    -- "Executing one given run": its slots in lent room, refused by 8 before 9.
+    slotsLent (P 10) (4 ∷ 3 ∷ 2 ∷ []) (room 11) (3 ∷ 2 ∷ 2 ∷ 2 ∷ 1 ∷ 1 ∷ 1 ∷ 1 ∷ 0 ∷ 0 ∷ 7 ∷ []) (answer 0 0) ∷
+    slotsLent (P 10) (5 ∷ 3 ∷ 2 ∷ []) (room 9) (room 9) (answer 8 10) ∷
+    slotsLent (P 10) (5 ∷ 3 ∷ 2 ∷ []) (room 10) (room 10) (answer 9 1) ∷
     -- 2: "N is 0 or above 64, the LO order's count isn't N, or the HI order's isn't the number of HI jobs. N as given."
     checked (counted 0 0 0 (P 10)) (answer 2 0) ∷
     checked (counted 65 65 2 (P 10)) (answer 2 65) ∷
@@ -334,6 +341,8 @@ table-holds =
     refl & refl & refl & refl & refl & refl &
     -- the largest margin, and room
     (refl, refl) & refl & refl & (refl, refl, refl) & (refl, refl, refl) & (refl, refl, refl) & (refl, refl, refl) &
+    -- slots
+    (refl, refl) & (refl, refl) & (refl, refl) &
     -- refusals 2 to 7
     refl & refl & refl & refl & refl & refl & refl & refl & refl & refl &
     refl & refl & refl & refl & refl & refl & refl & refl & refl & refl &

@@ -6,6 +6,7 @@
 --   ran v c               == the execution of the run with times c
 --   tablesRefusal v m n   == the refusal of making both tables into room of lengths m and n
 --   loTableIn, hiTableIn  == what the two lent tables hold afterwards
+--   slotsRefusal v c n    == the refusal of writing the slots of the run with times c into room of length n;  slotsIn: what the room holds afterwards
 use Prim.Native.Nat.{ℕ, suc}
 use mathlib.Core.Bool.{Bool, cond}
 use mathlib.Core.List.{List, [], _∷_, _++_, map}
@@ -21,9 +22,9 @@ use Rattle.model.specs.declared.Judged.{Judged}
 use Rattle.model.specs.declared.Judgement.the-variants.{Refused, Found}
 use Rattle.model.specs.Lists.{at, numbers}
 use Rattle.model.specs.Sets.{View, span}
-use Rattle.model.specs.Runs.{pick, outcomeIn, mark, switchIn}
+use Rattle.model.specs.Runs.{pick, slotAt, outcomeIn, mark, switchIn}
 use Rattle.model.specs.Scenarios.{places, zeros, verdict, timesBeside, rows, worst, margin}
-use Rattle.model.specs.Tables.{loTable, hiTable}
+use Rattle.model.specs.Tables.{tableOf, loTable, hiTable}
 use Rattle.model.specs.Refusals.{isGood, firstOf, refusal, checkRun, checkRoom}
 
 -- "0 for idle, else a job number"
@@ -72,3 +73,12 @@ loTableIn v lo hi = unless (tablesRefusal v (length lo) (length hi)) lo (loTable
 
 unfoldable pub hiTableIn : View → List ℕ → List ℕ → List ℕ
 hiTableIn v lo hi = unless (tablesRefusal v (length lo) (length hi)) hi (hiTable v ++ drop (span v) hi)
+
+-- Who gets each slot of one given run: what a picture of it shows. "0 for idle, else a job number, for the span's length; entries of the lent
+-- room beyond that stay untouched." One table is lent; 8 comes before 9.
+unfoldable pub slotsRefusal : View → List ℕ → ℕ → Refusal
+slotsRefusal v c n = firstOf (refusal v ∷ checkRoom v n n ∷ checkRun v c ∷ [])
+
+unfoldable pub slotsIn : View → List ℕ → List ℕ → List ℕ
+slotsIn v c table =
+    unless (slotsRefusal v c (length table)) table (tableOf v (slotAt (v .policy) c) ++ drop (span v) table)

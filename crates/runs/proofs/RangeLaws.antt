@@ -1,6 +1,7 @@
 -- The range of running times, a job at a time, and the answer of a given run.
 --   Inside k c i       == the times of the jobs passed lie in their range
 --   inside-more, outside-here, outside-none   == a turn of the loop over the jobs
+--   checked-out, checked-in                  == check 9, where a time lies outside and where none does
 --   ran-refused, ran-outside, ran-found       == the three answers;  can-run-given: what the run asks
 -- Assumes nothing.
 use Prim.Native.Nat.{ℕ, suc, _+_, _-_, _≤_, _<_}
@@ -99,11 +100,11 @@ unfolding ran unless firstOf notRun
 ran-refused v c r x e n f = f ∙ ap notRun e ∙ sym (rw (bad-of v r e n) (rw (bad-of v r e n) refl))
 
 -- refusal 9, where a time lies outside
-checked-out : (v : View) (c : List ℕ) → (outside v c ≡ 0 → ⊥) → checkRun v c ≡ record { number = 9; place = outside v c }
+pub checked-out : (v : View) (c : List ℕ) → (outside v c ≡ 0 → ⊥) → checkRun v c ≡ record { number = 9; place = outside v c }
 unfolding checkRun lowest placed applies outside
 checked-out v c n = rw (ne-eqb (outside v c) 0 n) refl
 
-checked-in : (v : View) (c : List ℕ) → outside v c ≡ 0 → checkRun v c ≡ good
+pub checked-in : (v : View) (c : List ℕ) → outside v c ≡ 0 → checkRun v c ≡ good
 unfolding checkRun lowest placed applies outside
 checked-in v c z = rw (eq-eqb (outside v c) 0 z) refl
 

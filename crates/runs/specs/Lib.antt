@@ -1,4 +1,4 @@
--- What the private functions of the runs and the tables promise. The public ones promise definitions of the model.
+-- What the private functions of the runs promise. The public ones promise definitions of the model.
 pub mod Engine
 pub mod Ranges
-pub mod Slots
+pub mod Room

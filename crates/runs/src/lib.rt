@@ -1,10 +1,10 @@
-// One run, and the two tables of a set. Both functions are total, and refuse by checks 2 to 7 first.
+// One run: what it ends with, and who gets each of its slots. Both functions are total, and refuse by checks 2 to 7 first.
 ghost use mathlib.Core.Path.{_≡_};
 ghost use mathlib.Core.Bool.{true};
 ghost use lib.ListN.{length};
 ghost use Rattle.model.specs.Sets.{view, span as spanOf};
-ghost use Rattle.model.specs.Refusals.{isGood, applies, refusal};
-ghost use Rattle.model.specs.Answers.{ran, tablesRefusal, loTableIn, hiTableIn};
+ghost use Rattle.model.specs.Refusals.{isGood, refusal};
+ghost use Rattle.model.specs.Answers.{ran, slotsRefusal, slotsIn};
 ghost use Rattle.runs.specs.Ranges.{notRun};
 
 mod engine;
@@ -23,8 +23,7 @@ use model::Refusal;
 use model::Set;
 use model::Switch;
 use range::out_of_range;
-use table::hi_table;
-use table::lo_table;
+use table::fill;
 
 // The span of a set that passes the checks.
 fn span_in(s: Set) -> u16
@@ -32,16 +31,6 @@ fn span_in(s: Set) -> u16
     ensures { λ r. ⌜ r ≡ spanOf (view s) ⌝ }
 {
     span_of(s) as u16
-}
-
-// Refusal 8: a lent table is shorter than the span.
-fn too_short(span: u16) -> Refusal
-    ensures { λ r. ⌜ r ≡ applies 8 span true ⌝ }
-{
-    Refusal {
-        number: ROOM,
-        place: span as u64,
-    }
 }
 
 // The answer of a run that is refused.
@@ -74,29 +63,44 @@ pub fn execute(s: Set, times: [u16; 64]) -> Ran
     run_to(k, times, span_in(s))
 }
 
-// Makes both tables in the room lent. Refused, it writes nothing; entries past the span stay as they were.
-pub fn make_tables(s: Set, lo: &mut [u16], hi: &mut [u16]) -> Refusal
-    ensures answer { λ r. ⌜ r ≡ tablesRefusal (view s) (length (now (lo .entry))) (length (now (hi .entry))) ⌝ }
-    ensures normal { λ r. ⌜ now (lo .exit) ≡ loTableIn (view s) (now (lo .entry)) (now (hi .entry)) ⌝ }
-    ensures critical { λ r. ⌜ now (hi .exit) ≡ hiTableIn (view s) (now (lo .entry)) (now (hi .entry)) ⌝ }
+// The refusal of writing a run's slots into room for n entries: 8 after 2 to 7, and then 9.
+fn slots_refusal(s: Set, times: [u16; 64], n: usize) -> Refusal
+    ensures { λ r. ⌜ r ≡ slotsRefusal (view s) times n ⌝ }
 {
     let refusal = refusal_of(s);
     if refusal.number != GOOD {
         return refusal;
     }
-    let span = span_in(s);
-    let n = span as usize;
-    if lo.len() < n {
-        return too_short(span);
+    let span = span_of(s);
+    if (n as u64) < span {
+        return Refusal {
+            number: ROOM,
+            place: span,
+        };
     }
-    if hi.len() < n {
-        return too_short(span);
+    let outside = out_of_range(columns_of(s), times);
+    if outside != 0 {
+        return Refusal {
+            number: RUN,
+            place: outside as u64,
+        };
     }
-    let k = columns_of(s);
-    lo_table(k, span, lo);
-    hi_table(k, span, lo, hi);
     Refusal {
         number: GOOD,
         place: 0,
     }
+}
+
+// Writes who gets each slot of one given run into the room lent: 0 for idle, else a job number, for the span's length. Refused, it writes nothing;
+// entries past the span stay as they were.
+pub fn slots(s: Set, times: [u16; 64], table: &mut [u16]) -> Refusal
+    ensures answer { λ r. ⌜ r ≡ slotsRefusal (view s) times (length (now (table .entry))) ⌝ }
+    ensures written { λ r. ⌜ now (table .exit) ≡ slotsIn (view s) times (now (table .entry)) ⌝ }
+{
+    let refused = slots_refusal(s, times, table.len());
+    if refused.number != GOOD {
+        return refused;
+    }
+    fill(columns_of(s), times, span_in(s), table);
+    refused
 }

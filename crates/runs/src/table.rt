@@ -1,29 +1,26 @@
-// The two tables, each into lent room: the LO table by the engine's step, and the HI table from it by rules (a), (b) and (c).
+// Who gets each slot of a run, into lent room.
 ghost use mathlib.Core.Path.{_≡_};
 ghost use mathlib.Core.List.{_++_};
-ghost use Prim.Native.Nat.{_<_};
-ghost use lib.ListN.{drop, length, take};
-ghost use Rattle.model.specs.Lists.{at};
+ghost use lib.ListN.{drop, length};
 ghost use Rattle.model.specs.Sets.{span as spanOf};
-ghost use Rattle.model.specs.Scenarios.{loTimes};
-ghost use Rattle.model.specs.Tables.{loTable, hiTable};
+ghost use Rattle.model.specs.Runs.{slotAt};
+ghost use Rattle.model.specs.Tables.{tableOf};
 ghost use Rattle.columns.specs.Columns.{viewOf};
-ghost use Rattle.runs.specs.Slots.{enabledIn, chosen, counted, Fillable};
+ghost use Rattle.runs.specs.Room.{Fillable};
 use crate::engine::start;
 use crate::engine::step;
 use columns::Columns;
-use measures::is_enabled;
 
-// Makes the LO table: scenario 0, slot by slot.
-pub fn lo_table(k: Columns, span: u16, table: &mut [u16])
-    requires { ⌜ Fillable k span (now table) × (k .lo ≡ loTimes (viewOf k)) ⌝ }
-    ensures { λ r. ⌜ now (table .exit) ≡ loTable (viewOf k) ++ drop (spanOf (viewOf k)) (now (table .entry)) ⌝ }
+// Writes the slots of the run with the times given, one by one to the span. Any times have slots, in their range or not.
+pub fn fill(k: Columns, times: [u16; 64], span: u16, table: &mut [u16])
+    requires { ⌜ Fillable k span (now table) × (length times ≡ 64) ⌝ }
+    ensures { λ r. ⌜ now (table .exit) ≡ tableOf (viewOf k) (slotAt (viewOf k .policy) times) ++ drop (spanOf (viewOf k)) (now (table .entry)) ⌝ }
 {
     let n = k.n;
     let m = k.m;
     let lo_order = k.lo_order;
     let hi_order = k.hi_order;
-    let mut g = start(n, &k.lo);
+    let mut g = start(n, &times);
     let mut t: u16 = 0;
     while t < span {
         g = step(
@@ -33,107 +30,11 @@ pub fn lo_table(k: Columns, span: u16, table: &mut [u16])
             &k.lo,
             &lo_order[..n],
             &hi_order[..m],
-            &k.lo,
+            &times,
             t,
             g,
         );
         table[t as usize] = g.slot;
-        t += 1;
-    }
-}
-
-// What a list holds for job j, 0 where it has no place for it.
-fn entry(list: &[u16], j: u16) -> u16
-    ensures { λ r. ⌜ r ≡ at (now (list .entry)) j 0 ⌝ }
-{
-    let k = j as usize;
-    if k == 0 {
-        return 0;
-    }
-    if list.len() < k {
-        return 0;
-    }
-    list[k - 1]
-}
-
-// Whether a number names a HI job that is enabled, by the slots had in both tables and the budgets of all jobs, where the LO table runs
-// job `slot`.
-fn enables<'a>(
-    had: &'a [u16],
-    lo_had: &'a [u16],
-    lo: &'a [u16],
-    hi: &'a [u16],
-    slot: u16,
-    j: u16,
-) -> bool
-    ensures { λ r. ⌜ r ≡ enabledIn (now (had .entry)) (now («lo_had» .entry)) (now (lo .entry)) (now (hi .entry)) slot j ⌝ }
-{
-    is_enabled(
-        entry(had, j),
-        entry(lo_had, j),
-        entry(lo, j),
-        entry(hi, j),
-        slot == j,
-    )
-}
-
-// The first enabled job of an order, 0 where there is none. An entry that names no job is passed over.
-fn hi_pick<'a>(
-    order: &'a [u16],
-    had: &'a [u16],
-    lo_had: &'a [u16],
-    lo: &'a [u16],
-    hi: &'a [u16],
-    slot: u16,
-) -> u16
-    ensures { λ r. ⌜ r ≡ chosen (now (order .entry)) (now (had .entry)) (now («lo_had» .entry)) (now (lo .entry)) (now (hi .entry)) slot ⌝ }
-{
-    let mut i: usize = 0;
-    while i < order.len() {
-        let j = order[i];
-        if enables(had, lo_had, lo, hi, slot, j) {
-            return j;
-        }
-        i += 1;
-    }
-    0
-}
-
-// The slots had, with one more for job j. A number that names no place changes nothing.
-fn count(had: [u16; 64], j: u16) -> [u16; 64]
-    requires { ⌜ (length had ≡ 64) × (at had j 0 < 65535) ⌝ }
-    ensures { λ r. ⌜ r ≡ counted had j ⌝ }
-{
-    let k = j as usize;
-    if k == 0 {
-        return had;
-    }
-    if 64 < k {
-        return had;
-    }
-    let mut more = had;
-    more[k - 1] = had[k - 1] + 1;
-    more
-}
-
-// Makes the HI table from the LO table.
-pub fn hi_table(k: Columns, span: u16, lo: &[u16], table: &mut [u16])
-    requires { ⌜ Fillable k span (now table) × (take (spanOf (viewOf k)) (now lo) ≡ loTable (viewOf k)) ⌝ }
-    ensures { λ r. ⌜ now (table .exit) ≡ hiTable (viewOf k) ++ drop (spanOf (viewOf k)) (now (table .entry)) ⌝ }
-{
-    let m = k.m;
-    let hi_order = k.hi_order;
-    let mut lo_had = [0u16; 64];
-    let mut had = [0u16; 64];
-    let mut t: u16 = 0;
-    while t < span {
-        let slot = lo[t as usize];
-        let j = hi_pick(&hi_order[..m], &had, &lo_had, &k.lo, &k.hi, slot);
-        table[t as usize] = j;
-        let lo_more = count(lo_had, slot);
-        lo_had = lo_more;
-        let more = count(had, j);
-        had = more;
         t += 1;
     }
 }

@@ -51,7 +51,8 @@ slice-aggregate-step-3 c = sym (entry (turn (c .before .before .before) .before)
 step-requires : tie.Need-step-requires Inv-loop μ-loop
 step-requires c κs =
     let i = turn (c .before .before .before) in
-    can-step _ _ _ _ (i .before .loop .inv .1) _ (entry (i .before) .pre) (i .loop-test .taken)
+    let p = entry (i .before) .pre in
+    can-step _ _ _ _ (i .before .loop .inv .1) (p .0 .full) (p .0 .times) (omega (arith, i .loop-test, p .1, p .0 .sound .bounded))
 
 add-t : tie.Need-add-t Inv-loop μ-loop
 add-t c = let i = turn (c .before .before .before .before) in omega (arith, i .loop-test, entry (i .before) .fits)

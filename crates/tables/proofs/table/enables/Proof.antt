@@ -1,9 +1,9 @@
 -- `enables` meets its contract: rules (a), (b), (c) of what the lists hold.
 -- Assumes nothing.
 use borrow.Author.Needs.{needs}
-use Rattle.runs.proofs.Slots.{enabled-is}
-use Rattle.runs.proofs.table.enables.Statement.{statement}
-use Rattle.runs.proofs.table.enables.Tie as tie
+use Rattle.tables.proofs.Slots.{enabled-is}
+use Rattle.tables.proofs.table.enables.Statement.{statement}
+use Rattle.tables.proofs.table.enables.Tie as tie
 
 entry-requires : tie.Need-entry-requires
 entry-requires c κs = search needs

@@ -5,10 +5,10 @@ use mathlib.Core.Path.{refl, sym, _∙_}
 use native.Mathlib.Omega.{arith}
 use lib.ListN.{length}
 use borrow.Author.Needs.{needs}
-use Rattle.runs.specs.Slots.{enabledIn, chosen}
-use Rattle.runs.proofs.Slots.{Left, left-found, left-next, left-none}
-use Rattle.runs.proofs.table.hi_pick.Statement.{statement}
-use Rattle.runs.proofs.table.hi_pick.Tie as tie
+use Rattle.tables.specs.Slots.{enabledIn, chosen}
+use Rattle.tables.proofs.Slots.{Left, left-found, left-next, left-none}
+use Rattle.tables.proofs.table.hi_pick.Statement.{statement}
+use Rattle.tables.proofs.table.hi_pick.Tie as tie
 
 abbrev Inv-loop : tie.InvT-loop
 Inv-loop order had lo-had lo hi slot i₀ i = (i ≤ length order) × Left (enabledIn had lo-had lo hi slot) order i

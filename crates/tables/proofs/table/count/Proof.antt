@@ -3,9 +3,9 @@
 use borrow.Author.Needs.{needs}
 use native.Mathlib.Omega.{arith}
 use Rattle.laws.proofs.Places.{at-in}
-use Rattle.runs.proofs.Slots.{counted-zero, counted-out, counted-in}
-use Rattle.runs.proofs.table.count.Statement.{statement}
-use Rattle.runs.proofs.table.count.Tie as tie
+use Rattle.tables.proofs.Slots.{counted-zero, counted-out, counted-in}
+use Rattle.tables.proofs.table.count.Statement.{statement}
+use Rattle.tables.proofs.table.count.Tie as tie
 
 returns : tie.Need-returns
 returns c = counted-zero _ _ (c .if1 .taken)

@@ -5,8 +5,8 @@ use native.Mathlib.Omega.{arith}
 use borrow.Author.Needs.{needs}
 use Rattle.model.specs.Lists.{at}
 use Rattle.laws.proofs.Places.{at-in, at-out}
-use Rattle.runs.proofs.table.entry.Statement.{statement}
-use Rattle.runs.proofs.table.entry.Tie as tie
+use Rattle.tables.proofs.table.entry.Statement.{statement}
+use Rattle.tables.proofs.table.entry.Tie as tie
 
 returns : tie.Need-returns
 unfolding at

@@ -29,7 +29,7 @@ use Rattle.laws.proofs.Places.{at-in, at-set}
 use Rattle.measures.specs.Measures.{enabledBy}
 use Rattle.columns.specs.declared.Columns.{Columns}
 use Rattle.columns.specs.Columns.{listed, byMode, viewOf}
-use Rattle.runs.specs.Slots.{enabledIn, chosen, counted}
+use Rattle.tables.specs.Slots.{enabledIn, chosen, counted}
 
 -- who is enabled, by what the lists hold
 pub enabled-is : (had loHad lo hi : List ℕ) (slot j h l a b : ℕ) (r : Bool) → h ≡ at had j 0 → l ≡ at loHad j 0 → a ≡ at lo j 0 → b ≡ at hi j 0

@@ -6,22 +6,19 @@ use mathlib.Core.Path.{sym}
 use lib.Seq.{length-take-le}
 use borrow.Author.Needs.{needs}
 use Rattle.model.specs.Scenarios.{zeros}
-use Rattle.runs.proofs.Tables.{HiTurn, hi-first, hi-last, lo-countable, hi-countable, hi-more}
-use Rattle.runs.proofs.table.hi_table.Statement.{statement}
-use Rattle.runs.proofs.table.hi_table.Tie as tie
+use Rattle.tables.proofs.Turns.{Turn, first-turn, next-turn, last-turn, lo-countable, hi-countable}
+use Rattle.tables.proofs.table.hi_table.Statement.{statement}
+use Rattle.tables.proofs.table.hi_table.Tie as tie
 
 abbrev Inv-loop : tie.InvT-loop
-Inv-loop span lo table₀ k m hi-order lo-had₀ had₀ t₀ table lo-had had t = HiTurn k span lo table₀ table lo-had had t
+Inv-loop span lo table₀ k m hi-order lo-had₀ had₀ t₀ table lo-had had t = Turn k span lo table₀ table lo-had had t
 
 abbrev μ-loop : tie.MeasureT-loop
 μ-loop span lo table₀ k m hi-order lo-had₀ had₀ t₀ table lo-had had t = span - t
 
 loop-holds : tie.Need-loop-holds Inv-loop μ-loop
 unfolding zeros
-loop-holds c = let b = c .before .before .before .pre in hi-first _ _ _ _ (b .0) (b .1)
-
-cast-slot : tie.Need-cast-slot Inv-loop μ-loop
-cast-slot c = search needs
+loop-holds c = let b = c .before .before .before .pre in first-turn _ _ _ _ (b .0) (b .1)
 
 mul-slot : tie.Need-mul-slot Inv-loop μ-loop
 mul-slot c = search needs
@@ -43,9 +40,6 @@ slice-aggregate-hi-pick-3 c = sym (c .before .before .before .before .before .lo
 
 hi-pick-requires : tie.Need-hi-pick-requires Inv-loop μ-loop
 hi-pick-requires c κs = search needs
-
-cast-table : tie.Need-cast-table Inv-loop μ-loop
-cast-table c = search needs
 
 mul-table : tie.Need-mul-table Inv-loop μ-loop
 mul-table c = search needs
@@ -72,7 +66,7 @@ loop-again c =
     let n = c .before .before in
     let w = n .before .before .before .before .before .before .before .before .before .before in
     let b = w .before .before .before .before .before in
-    hi-more _ _ _ _ _ _ _ _ (w .before .loop .inv) _ _ _ (b .pre .1) (w .loop-test .taken) (n .hi-pick .ensures)
+    next-turn _ _ _ _ _ _ _ _ (w .before .loop .inv) _ _ _ (b .pre .1) (w .loop-test .taken) (n .hi-pick .ensures)
     (c .before .count .ensures)
     (c .count2 .ensures)
 
@@ -80,7 +74,7 @@ same-length : tie.Need-same-length Inv-loop μ-loop
 same-length c = c .before .loop .inv .same
 
 returns : tie.Need-returns Inv-loop μ-loop
-returns c = hi-last _ _ _ _ _ _ _ _ (c .before .loop .inv) (c .loop-test .left)
+returns c = last-turn _ _ _ _ _ _ _ _ (c .before .loop .inv) (c .loop-test .left)
 
 pub hi-table-spec : {M : Type 1} → statement M
 hi-table-spec =
@@ -89,7 +83,6 @@ hi-table-spec =
     Inv-loop
     μ-loop
     loop-holds
-    cast-slot
     mul-slot
     shared-slice-read-slot
     array-share-prefix-hi-order
@@ -97,7 +90,6 @@ hi-table-spec =
     slice-aggregate-hi-pick-2
     slice-aggregate-hi-pick-3
     hi-pick-requires
-    cast-table
     mul-table
     slice-write-table
     count-requires
