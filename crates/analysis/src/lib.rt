@@ -1,10 +1,11 @@
-// The analysis of document 01, as one library: the pick, one run, the verdict, finish rows, worst finishes and margins, the two tables, the part.
+// The analysis of document 01, as one library: the pick, one run and its slots, the scenarios, finish rows, the verdict, worst finishes and margins, the two tables, the part.
 // Every function is total. Each but the pick and the part refuses by checks 2 to 7 first.
 pub use parts::part;
 pub use parts::part_refusal;
 pub use picks::pick;
 pub use runs::execute;
-pub use runs::make_tables;
+pub use runs::slots;
+pub use tables::make_tables;
 pub use verdicts::finish_rows;
 pub use verdicts::judge;
 pub use verdicts::margins;

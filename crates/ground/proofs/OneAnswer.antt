@@ -20,7 +20,7 @@ use Rattle.model.specs.declared.Ran.{Ran}
 use Rattle.model.specs.declared.Judged.{Judged}
 use Rattle.columns.specs.declared.Columns.{Columns}
 use Rattle.ground.specs.Promises.{IsHi, Breaks, Places, FaultOf}
-use Rattle.ground.specs.Promises.{RefusalOf, SpanOf, ColumnsOf, Judges, FinishRows, RowsRefusal, WorstFinishes, Margins, Executes}
+use Rattle.ground.specs.Promises.{RefusalOf, SpanOf, ColumnsOf, Judges, FinishRows, RowsRefusal, WorstFinishes, Margins, Executes, Slots}
 use Rattle.ground.specs.Promises.{Picks, Parts, PartRefusal, MakesTables, InRange, Outruns, IsEnabled, Misses, Worse, MarginOf}
 
 pub one : {A : Type 0} {x y z : A} → x ≡ z → y ≡ z → x ≡ y
@@ -69,6 +69,11 @@ margins-one s x y p q = one p q
 -- The execution of one given run: the refusal, each job's finish, and the switch.
 pub execute-one : (s : Set) (c : List ℕ) (x y : Ran) → Executes s c x → Executes s c y → x ≡ y
 execute-one s c x y p q = one p q
+
+-- The slots of one given run: the answer, and what the lent slice holds afterwards, written or not.
+pub slots-one : (s : Set) (c l : List ℕ) (x y : Refusal) (afterX afterY : List ℕ)
+    → Slots s c l x afterX → Slots s c l y afterY → (x ≡ y) × (afterX ≡ afterY)
+slots-one s c l x y afterX afterY p q = (one (p .2 .0) (q .2 .0), one (p .2 .1) (q .2 .1))
 
 -- Both tables: the answer, and what each lent slice holds afterwards, written or not.
 pub make-tables-one : (s : Set) (lo hi : List ℕ) (x y : Refusal) (loX hiX loY hiY : List ℕ)

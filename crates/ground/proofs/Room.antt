@@ -13,10 +13,10 @@ use Rattle.model.specs.declared.Ran.{Ran}
 use Rattle.model.specs.declared.Judged.{Judged}
 use Rattle.model.specs.Sets.{span}
 use Rattle.model.specs.Refusals.{refusal}
-use Rattle.model.specs.Answers.{judged, finishRows, worsts, margins, ran, tablesRefusal, loTableIn, hiTableIn}
+use Rattle.model.specs.Answers.{judged, finishRows, worsts, margins, ran, slotsRefusal, slotsIn, tablesRefusal, loTableIn, hiTableIn}
 use Rattle.theory.specs.Words.{Alike}
 use Rattle.theory.proofs.Results.{room-is-no-part}
-use Rattle.ground.specs.Promises.{RefusalOf, SpanOf, Judges, FinishRows, RowsRefusal, WorstFinishes, Margins, Executes, MakesTables}
+use Rattle.ground.specs.Promises.{RefusalOf, SpanOf, Judges, FinishRows, RowsRefusal, WorstFinishes, Margins, Executes, Slots, MakesTables}
 use Rattle.ground.proofs.OneAnswer.{one}
 
 module _ (s t : Set) (h : Alike s t) where
@@ -49,6 +49,14 @@ module _ (s t : Set) (h : Alike s t) where
   -- The execution of a run with the same times.
   pub execute-alike : (c : List ℕ) (x y : Ran) → Executes s c x → Executes t c y → x ≡ y
   execute-alike c x y p q = one p (q ∙ sym (room-is-no-part (λ v. ran v c) s t h))
+
+  -- The slots of a run with the same times, where the room lent holds the same.
+  pub slots-alike : (c l : List ℕ) (x y : Refusal) (afterX afterY : List ℕ) → Slots s c l x afterX → Slots t c l y afterY
+      → (x ≡ y) × (afterX ≡ afterY)
+  slots-alike c l x y afterX afterY p q = (
+    one (p .2 .0) (q .2 .0 ∙ sym (room-is-no-part (λ v. slotsRefusal v c (length l)) s t h)),
+    one (p .2 .1) (q .2 .1 ∙ sym (room-is-no-part (λ v. slotsIn v c l) s t h)),
+  )
 
   -- Both tables, where the room lent holds the same: the answer, and what each lent slice holds afterwards.
   pub make-tables-alike : (lo hi : List ℕ) (x y : Refusal) (loX hiX loY hiY : List ℕ)

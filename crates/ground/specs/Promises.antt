@@ -6,6 +6,7 @@
 --   Picks o a d t x   == `pick`, lent an order o, arrivals a and who is done d, at the instant t
 --   Parts l t x       == `part` of the table l from the instant t: the slice that it answers holds x;  PartRefusal: its companion
 --   InRange, Outruns, IsEnabled, Misses, Worse, MarginOf   == those of the measures, from the numbers that each is given
+--   Slots s c l x after   == `slots`, with the running times c, lent room that holds l: it answers x, and the room holds `after`
 --   MakesTables s lo hi x loAfter hiAfter   == `make_tables`, lent room that holds lo and hi: it answers x, and the room holds loAfter and hiAfter
 use Prim.Native.Nat.{ℕ}
 use mathlib.Core.Bool.{Bool}
@@ -43,10 +44,11 @@ use Rattle.verdicts.proofs.rows_refusal.Reads.{Post as rows-refusal}
 use Rattle.verdicts.proofs.worst_finishes.Reads.{Post as worst-finishes}
 use Rattle.verdicts.proofs.margins.Reads.{Post as margins}
 use Rattle.runs.proofs.execute.Reads.{Post as execute}
+use Rattle.runs.proofs.slots.Reads.{Post as slots}
 use Rattle.picks.proofs.pick.Reads.{Post as pick}
 use Rattle.parts.proofs.part.Reads.{Post as part}
 use Rattle.parts.proofs.part_refusal.Reads.{Post as part-refusal}
-use Rattle.runs.proofs.make_tables.Reads.{Post as make-tables}
+use Rattle.tables.proofs.make_tables.Reads.{Post as make-tables}
 
 abbrev pub IsHi : Level → Bool → Type 0
 IsHi l x = is-hi tt (l, tt) x (l, tt)
@@ -123,6 +125,9 @@ Parts l t x = (κs : Lfts 1) × (p q : Spot) × part κs (slice p l, (t, tt)) (s
 
 abbrev pub PartRefusal : List ℕ → ℕ → Refusal → Type 0
 PartRefusal l t x = (κs : Lfts 1) × (p : Spot) × part-refusal κs (slice p l, (t, tt)) x (slice p l, (t, tt))
+
+abbrev pub Slots : Set → List ℕ → List ℕ → Refusal → List ℕ → Type 0
+Slots s c l x after = (κs : Lfts 1) × (p : Place) × slots κs (s, (c, (slice p l, tt))) x (s, (c, (slice p after, tt)))
 
 abbrev pub MakesTables : Set → List ℕ → List ℕ → Refusal → List ℕ → List ℕ → Type 0
 MakesTables s lo hi x loAfter hiAfter =
