@@ -127,7 +127,7 @@ abbrev pub PartRefusal : List ℕ → ℕ → Refusal → Type 0
 PartRefusal l t x = (κs : Lfts 1) × (p : Spot) × part-refusal κs (slice p l, (t, tt)) x (slice p l, (t, tt))
 
 abbrev pub Slots : Set → List ℕ → List ℕ → Refusal → List ℕ → Type 0
-Slots s c l x after = (κs : Lfts 1) × (p : Place) × slots κs (s, (c, (slice p l, tt))) x (s, (c, (slice p after, tt)))
+Slots s c l x after = (κs : Lfts 1) × (p : Spot) × slots κs (s, (c, (slice p l, tt))) x (s, (c, (slice p after, tt)))
 
 abbrev pub MakesTables : Set → List ℕ → List ℕ → Refusal → List ℕ → List ℕ → Type 0
 MakesTables s lo hi x loAfter hiAfter =
