@@ -14,4 +14,5 @@ pub use values::numbers;
 pub use values::rows;
 pub use words::bytes;
 pub use words::line;
+pub use words::list;
 pub use words::number;
