@@ -6,6 +6,7 @@ pub use picks::pick;
 pub use runs::execute;
 pub use runs::slots;
 pub use tables::make_tables;
+pub use verdicts::assess;
 pub use verdicts::finish_rows;
 pub use verdicts::judge;
 pub use verdicts::margins;

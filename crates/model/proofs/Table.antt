@@ -41,13 +41,13 @@ use Rattle.model.specs.Runs.{hadAt, doneAt}
 use Rattle.model.specs.Runs.{finishOf, switchOf, droppedBy, Outcome, finished, dropped, outcome, mark, requiredAfter, outcomeIn}
 use Rattle.model.specs.Runs.{switchIn, required, late, missed, meets, limit, inRange, isRun}
 use Rattle.model.specs.Scenarios.{places, zeros, hiJobs, scenarios, loTimes, turn, hiTime, timesOf, finishIn, lateIn, search, verdict}
-use Rattle.model.specs.Scenarios.{timesBeside, row, hiRow, rows, worst, margin}
+use Rattle.model.specs.Scenarios.{timesBeside, row, hiRow, rows, worst, worstsBeside, margin}
 use Rattle.model.specs.Tables.{tableOf, loSlot, loTable, enabled, hiPick, hiHadAt, hiSlot, hiTable, part}
 use Rattle.model.specs.Refusals.{good, isGood, applies, placed, firstOf, lowest, faultFrom, fault, checkCount, timeWrong, checkTime}
 use Rattle.model.specs.Refusals.{budgetWrong, checkBudget, checkSpan, checkLoOrder, isHiJob, checkHiOrder, checks, refusal}
 use Rattle.model.specs.Refusals.{checkRoom, checkRun, checkInstant}
 use Rattle.model.specs.Answers.{unless, judged as judgedOf, finishRows as rowsOf, worsts as worstsOf, margins as marginsOf, ran as ranOf}
-use Rattle.model.specs.Answers.{tablesRefusal, loTableIn, hiTableIn, slotsRefusal, slotsIn}
+use Rattle.model.specs.Answers.{assessed as assessedOf, tablesRefusal, loTableIn, hiTableIn, slotsRefusal, slotsIn}
 use Rattle.model.specs.Texts.{digit, spelled, decimal, fields, line, levelNumber, jobNumbers, orderLine, jobsOf, textOf}
 use Rattle.model.specs.Printed.{fitWord, unfitWord, refusedWord, signed, scenarioNumber, refusedText, fitText, unfitText, judgedText}
 use Rattle.model.specs.Printed.{printed}
@@ -112,6 +112,8 @@ pub data Clause : Type 0 where
   checked : Set → Refusal → Clause
   -- the judgement, and the running times beside it
   judged : Set → Judgement → List ℕ → Clause
+  -- the worst finishes beside the judgement
+  assessed : Set → List ℕ → Clause
   -- the verdict over these scenarios alone
   searched : Set → List ℕ → Verdict → Clause
   -- the finish rows
@@ -146,15 +148,16 @@ unfolding
     isHi job blank set jobAt orderOf countOf view members critical span
     time start overruns modeNow ready pick slotNow bump account step stateAt modeAt slotAt hadAt doneAt finishOf switchOf droppedBy outcome mark
     requiredAfter outcomeIn switchIn required late missed meets limit inRange isRun
-    places zeros hiJobs scenarios loTimes turn hiTime timesOf finishIn lateIn search verdict timesBeside row hiRow rows worst margin
+    places zeros hiJobs scenarios loTimes turn hiTime timesOf finishIn lateIn search verdict timesBeside row hiRow rows worst worstsBeside margin
     tableOf loSlot loTable enabled hiPick hiHadAt hiSlot hiTable part
     good isGood applies placed firstOf lowest faultFrom fault checkCount timeWrong checkTime budgetWrong checkBudget checkSpan
     checkLoOrder isHiJob checkHiOrder checks refusal checkRoom checkRun checkInstant
-    unless judgedOf rowsOf worstsOf marginsOf ranOf tablesRefusal loTableIn hiTableIn slotsRefusal slotsIn
+    unless judgedOf assessedOf rowsOf worstsOf marginsOf ranOf tablesRefusal loTableIn hiTableIn slotsRefusal slotsIn
     flatMap digit spelled decimal fields line levelNumber jobNumbers orderLine jobsOf textOf
     fitWord unfitWord refusedWord signed scenarioNumber refusedText fitText unfitText judgedText printed
 holds (checked s r) = refusal (view s) ≡ r
 holds (judged s x c) = judgedOf (view s) ≡ record { judgement = x; times = padded c }
+holds (assessed s w) = assessedOf (view s) ≡ record { judged = judgedOf (view s); worsts = padded w }
 holds (searched s l x) = search (view s) (map scenario l) ≡ x
 holds (finishRows s l) = rowsOf (view s) ≡ filled 65 (padded []) (map padded l)
 holds (margins s w m) = (worstsOf (view s) ≡ padded w) × (marginsOf (view s) ≡ filled 64 (pos 0) m)
@@ -183,6 +186,7 @@ table =
     -- P: "FIT 10", and "for each job its number, worst finish and margin" 1 8 2, 2 4 2, 3 3 3.
     judged (P 10) (Found Fit) [] ∷
     margins (P 10) (8 ∷ 4 ∷ 3 ∷ []) (pos 2 ∷ pos 2 ∷ pos 3 ∷ []) ∷
+    assessed (P 10) (8 ∷ 4 ∷ 3 ∷ []) ∷
     -- Its rows, and each row's run by itself: "each job's finish, 0 for a dropped job, and the instant of the switch if there is one".
     finishRows (P 10) ((5 ∷ 2 ∷ 3 ∷ []) ∷ (7 ∷ 2 ∷ 3 ∷ []) ∷ (8 ∷ 4 ∷ 0 ∷ []) ∷ []) ∷
     executed (P 10) (2 ∷ 1 ∷ 2 ∷ []) (answer 0 0) (5 ∷ 2 ∷ 3 ∷ []) Never ∷
@@ -231,6 +235,7 @@ table =
     margins (P 8) (8 ∷ 4 ∷ 3 ∷ []) (pos 0 ∷ pos 2 ∷ pos 3 ∷ []) ∷
     -- "At 7: unfit, scenario 2, job 1, finish 8, times 4 3 2."
     judged (P 7) (unfit 2 1 8) (4 ∷ 3 ∷ 2 ∷ []) ∷
+    assessed (P 7) [] ∷
     -- "At 6: scenario 1, job 1, finish 7, times 4 1 2."
     judged (P 6) (unfit 1 1 7) (4 ∷ 1 ∷ 2 ∷ []) ∷
     -- "At 4: scenario 0, job 1, finish 5, times 2 1 2."
@@ -245,6 +250,7 @@ table =
     checked (alone (job 0 4096 Lo 4097 4097)) (answer 5 4097) ∷
     -- "Q: .. Refusal 4, job 3." And then "finish tables and margins come back all 0".
     judged (Q 2) (Refused (answer 4 3)) [] ∷
+    assessed (Q 2) [] ∷
     finishRows (Q 2) [] ∷
     margins (Q 2) [] [] ∷
     -- "Judged by scenarios 0 and 2 alone it would pass"; by 0, 2 and 3 too.
@@ -328,13 +334,14 @@ pub table-holds : allHold table
 unfolding holds allHold table jobsOfP P ordered Q B idling tardy alone counted crowded
 table-holds =
     -- P
-    refl & (refl, refl) & refl & refl & refl & refl & refl & refl & refl & refl & refl & (refl, refl) & (refl, refl) & (refl, refl) & (refl, refl) &
+    refl & (refl, refl) & refl & refl & refl & refl & refl & refl & refl & refl & refl & refl &
+    (refl, refl) & (refl, refl) & (refl, refl) & (refl, refl) &
     -- P with another deadline
-    refl & (refl, refl) & refl & refl & refl &
+    refl & (refl, refl) & refl & refl & refl & refl &
     -- one LO job
     refl & refl & refl & (refl, refl) & refl & refl &
     -- Q
-    refl & refl & (refl, refl) & refl & refl & refl & (refl, refl, refl, refl) & refl & refl & refl &
+    refl & refl & refl & (refl, refl) & refl & refl & refl & (refl, refl, refl, refl) & refl & refl & refl &
     -- B, idling, tardy
     (refl, refl) & (refl, refl, refl, refl) & refl & (refl, refl, refl, refl) & (refl, refl, refl, refl) & (refl, refl, refl, refl) &
     -- running times

@@ -1,7 +1,7 @@
 -- The answers of document 01 for every set, refused or not, by its view. "No verdict comes with [a refusal], and no part but the empty one;
 -- .. running times, finishes, finish tables and margins come back all 0, and everything lent is untouched."
 --   picked j              == the pick as an answer: a job, or idle;  lentPick: the pick over lent numbers
---   judged v              == the judgement, and the times beside it
+--   judged v              == the judgement, and the times beside it;  assessed v: with them, where it is fit, the worst finishes
 --   finishRows v          == the finish rows;  worsts v, margins v: worst finishes and margins
 --   ran v c               == the execution of the run with times c
 --   tablesRefusal v m n   == the refusal of making both tables into room of lengths m and n
@@ -19,11 +19,12 @@ use Rattle.model.specs.declared.Refusal.{Refusal}
 use Rattle.model.specs.declared.Ran.{Ran}
 use Rattle.model.specs.declared.Switch.the-variants.{Never}
 use Rattle.model.specs.declared.Judged.{Judged}
+use Rattle.model.specs.declared.Assessed.{Assessed}
 use Rattle.model.specs.declared.Judgement.the-variants.{Refused, Found}
 use Rattle.model.specs.Lists.{at, numbers}
 use Rattle.model.specs.Sets.{View, span}
 use Rattle.model.specs.Runs.{pick, slotAt, outcomeIn, mark, switchIn}
-use Rattle.model.specs.Scenarios.{places, zeros, verdict, timesBeside, rows, worst, margin}
+use Rattle.model.specs.Scenarios.{places, zeros, verdict, timesBeside, rows, worst, worstsBeside, margin}
 use Rattle.model.specs.Tables.{tableOf, loTable, hiTable}
 use Rattle.model.specs.Refusals.{isGood, firstOf, refusal, checkRun, checkRoom}
 
@@ -46,6 +47,10 @@ judged v =
     unless r
     (record { judgement = Refused r; times = zeros })
     (record { judgement = Found x; times = timesBeside v x })
+
+-- The judgement, and each job's worst finish where it is fit, from one search. In every other answer the worst finishes are 0.
+unfoldable pub assessed : View → Assessed
+assessed v = record { judged = judged v; worsts = unless (refusal v) zeros (worstsBeside v (verdict v)) }
 
 unfoldable pub finishRows : View → List (List ℕ)
 finishRows v = unless (refusal v) (replicate 65 zeros) (rows v)

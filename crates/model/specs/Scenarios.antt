@@ -6,7 +6,7 @@
 --   search v l       == the first required miss over the scenarios l
 --   verdict v        == the verdict;  timesBeside: the running times beside it
 --   rows v           == the finish times of all scenarios, row 0 LO and row J of HI job J
---   worst v j        == the worst finish;  margin v j: D minus the worst finish
+--   worst v j        == the worst finish;  margin v j: D minus the worst finish;  worstsBeside: the worst finishes beside a verdict
 use Prim.Native.Nat.{ℕ}
 use mathlib.Core.Bool.{Bool, cond, not, _&&_, _||_}
 use mathlib.Core.List.{List, [], _∷_, map}
@@ -88,6 +88,11 @@ rows v = row v Lo ∷ map (hiRow v) (numbers 64)
 -- "A job's worst finish is the largest finish in its rows; for a LO job only row LO counts."
 unfoldable pub worst : View → ℕ → ℕ
 worst v j = cond (critical (v .policy) j) (largest (λ r. at r j 0) (rows v)) (finishIn v Lo j)
+
+-- A fit answer has the worst finishes; an unfit one has 0 in their places.
+unfoldable pub worstsBeside : View → Verdict → List ℕ
+worstsBeside v Fit = places v (worst v)
+worstsBeside v (Unfit m) = zeros
 
 -- "The margin is D minus the worst finish, a signed number."
 unfoldable pub margin : View → ℕ → ℤ

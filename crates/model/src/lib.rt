@@ -117,3 +117,9 @@ pub struct Judged {
     pub judgement: Judgement,
     pub times: [u16; 64],
 }
+
+// A judgement with its times, and beside it the worst finishes of a fit set, all 0 for an unfit or a refused one.
+pub struct Assessed {
+    pub judged: Judged,
+    pub worsts: [u16; 64],
+}

@@ -8,12 +8,12 @@ use lib.IntN.{ℤ, pos}
 use lib.ListN.{replicate}
 use Rattle.model.specs.declared.Set.{Set}
 use Rattle.model.specs.declared.Refusal.{Refusal}
-use Rattle.model.specs.declared.Judged.{Judged}
+use Rattle.model.specs.declared.Assessed.{Assessed}
 use Rattle.model.specs.declared.Judgement.the-variants.{Refused}
 use Rattle.model.specs.Sets.{View, view}
 use Rattle.model.specs.Scenarios.{places, zeros, rows, worst}
 use Rattle.model.specs.Refusals.{refusal}
-use Rattle.model.specs.Answers.{unless, judged, finishRows, worsts, margins}
+use Rattle.model.specs.Answers.{unless, judged, assessed, finishRows, worsts, margins}
 use Rattle.laws.proofs.Answers.{bad-of}
 use Rattle.columns.specs.declared.Columns.{Columns}
 use Rattle.columns.specs.Columns.{viewOf, Prepared}
@@ -21,9 +21,10 @@ use Rattle.verdicts.specs.Tests.{found}
 use Rattle.verdicts.specs.Rows.{marginsIn}
 
 module _ (v : View) (r : Refusal) (e : r ≡ refusal v) (n : r .number ≡ 0 → ⊥) where
-  pub refused-judged : _≡_ {A = Judged} (record { judgement = Refused r; times = replicate 64 0 }) (judged v)
-  unfolding judged unless zeros
-  refused-judged = rw (bad-of v r e n) (ap (λ x. record { judgement = Refused x; times = zeros }) e)
+  pub refused-assessed
+      : _≡_ {A = Assessed} (record { judged = record { judgement = Refused r; times = replicate 64 0 }; worsts = replicate 64 0 }) (assessed v)
+  unfolding assessed judged unless zeros
+  refused-assessed = rw (bad-of v r e n) (ap (λ x. record { judged = record { judgement = Refused x; times = zeros }; worsts = zeros }) e)
 
   pub refused-rows : (l : List (List ℕ)) → l ≡ replicate 65 zeros → l ≡ finishRows v
   unfolding finishRows unless
@@ -38,9 +39,9 @@ module _ (v : View) (r : Refusal) (e : r ≡ refusal v) (n : r .number ≡ 0 →
   refused-margins = sym (rw (bad-of v r e n) refl)
 
 module _ (s : Set) (k : Columns) (p : Prepared s k) where
-  pub found-judged : (x : Judged) → x ≡ found (viewOf k) → x ≡ judged (view s)
-  unfolding found judged unless
-  found-judged x e = e ∙ ap found (p .same) ∙ sym (rw (p .good) refl)
+  pub found-assessed : (x : Assessed) → x ≡ found (viewOf k) → x ≡ assessed (view s)
+  unfolding found assessed judged unless
+  found-assessed x e = e ∙ ap found (p .same) ∙ sym (rw (p .good) refl)
 
   pub found-rows : (l : List (List ℕ)) → l ≡ rows (viewOf k) → l ≡ finishRows (view s)
   unfolding finishRows unless

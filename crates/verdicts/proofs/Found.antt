@@ -11,20 +11,19 @@ use mathlib.Core.List.{List}
 use mathlib.Core.Logic.{_⊎_, inl, inr}
 use native.Mathlib.Omega.{arith}
 use native.Mathlib.Numerals.{add-one}
-use lib.ListN.{getD, replicate}
+use lib.ListN.{getD}
 use Rattle.model.specs.declared.Miss.{Miss}
 use Rattle.model.specs.declared.Ran.{Ran}
-use Rattle.model.specs.declared.Judged.{Judged}
-use Rattle.model.specs.declared.Judgement.the-variants.{Found as FoundVerdict}
+use Rattle.model.specs.declared.Assessed.{Assessed}
 use Rattle.model.specs.declared.Verdict.the-variants.{Fit, Unfit}
 use Rattle.model.specs.Runs.{mark, outcomeIn}
-use Rattle.model.specs.Scenarios.{zeros, timesOf, finishIn, lateIn, verdict, timesBeside}
+use Rattle.model.specs.Scenarios.{places, timesOf, finishIn, lateIn, verdict, timesBeside, worst, worstsBeside}
 use Rattle.columns.specs.declared.Columns.{Columns}
 use Rattle.columns.specs.Columns.{viewOf, Testable}
 use Rattle.columns.proofs.Entries.{part-e}
 use Rattle.runs.specs.Engine.{runOf}
 use Rattle.measures.specs.Measures.{missedBy}
-use Rattle.verdicts.specs.Tests.{numbered, plays, unfitIn, found}
+use Rattle.verdicts.specs.Tests.{numbered, plays, fitWith, unfitIn, found}
 use Rattle.verdicts.proofs.Search.{rest, rest-skip, rest-pass, rest-fail, rest-end, Passed, finish-is, late-none, late-is, plays-in, plays-out, missed-turn}
 
 -- the answer where job j ends at f in scenario x
@@ -83,16 +82,16 @@ module _ (k : Columns) (h : Testable k) where
         g,
       )
 
-  pub unfit-is : (x job f : ℕ) (c : List ℕ) (r : Judged) → Found k x job f c → x ≤ k .n → r ≡ unfitIn x job f c → r ≡ found (viewOf k)
-  unfolding found unfitIn timesBeside
+  pub unfit-is : (x job f : ℕ) (c : List ℕ) (r : Assessed) → Found k x job f c → x ≤ k .n → r ≡ unfitIn x job f c → r ≡ found (viewOf k)
+  unfolding found unfitIn timesBeside worstsBeside
   unfit-is x job f c r (inl z) q e = absurd (omega (arith, z .0))
   unfit-is x job f c r (inr z) q e = e ∙ rw (z .2, z .3) refl
 
-  pub fit-is : (x job f : ℕ) (c : List ℕ) → Found k x job f c → k .n < x
-      → _≡_ {A = Judged} (record { judgement = FoundVerdict Fit; times = replicate 64 0 }) (found (viewOf k))
-  unfolding found timesBeside zeros
-  fit-is x job f c (inl z) q = rw (z .1) refl
-  fit-is x job f c (inr z) q = absurd (omega (arith, z .0))
+  pub fit-is : (x job f : ℕ) (c w : List ℕ) (r : Assessed) → Found k x job f c → k .n < x → w ≡ places (viewOf k) (worst (viewOf k)) → r ≡ fitWith w
+      → r ≡ found (viewOf k)
+  unfolding found fitWith timesBeside worstsBeside
+  fit-is x job f c w r (inl z) q d e = e ∙ ap fitWith d ∙ rw (z .1) refl
+  fit-is x job f c w r (inr z) q d e = absurd (omega (arith, z .0))
 
   pub job-fits : (x job f : ℕ) (c : List ℕ) → Found k x job f c → x ≤ k .n → job < 64
   job-fits x job f c (inl z) q = absurd (omega (arith, z .0))

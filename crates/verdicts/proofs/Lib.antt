@@ -4,4 +4,5 @@ pub mod Search
 pub mod Scenarios
 pub mod Found
 pub mod RowLaws
+pub mod Carried
 pub mod AnswerLaws

@@ -3,6 +3,7 @@
 --   rows-start, rows-set, rows-turn, rows-keep, rows-end   == a turn of the loop over the rows
 --   worstTo v x j     == job j's worst finish over the rows before row x
 --   raise-..          == the loop that raises the worst finishes by one more run
+--   places-same       == two fillings are equal that agree at the jobs
 --   worsts-..         == the loop over the HI scenarios: before it, a turn with a run and one without, and after it
 --   margins-..        == the loop over the jobs' margins
 -- Assumes nothing.
@@ -130,7 +131,7 @@ module _ (k : Columns) (h : Testable k) where
   raise-all f l i e z = e ∙ ap (λ n. upTo n f 0) z ∙ upTo-places (k .n) f 0
 
   -- two fillings are equal that agree at the jobs
-  places-same : (f g : ℕ → ℕ) → ((i : ℕ) → i < k .n → f (suc i) ≡ g (suc i)) → places (viewOf k) f ≡ places (viewOf k) g
+  pub places-same : (f g : ℕ → ℕ) → ((i : ℕ) → i < k .n → f (suc i) ≡ g (suc i)) → places (viewOf k) f ≡ places (viewOf k) g
   unfolding places
   places-same f g e =
       let v = viewOf k in

@@ -2,7 +2,7 @@
 --   scenario-range    == the times of a scenario are those of a run
 --   lo-ran, ends-ran  == what the execution of scenario 0, and of scenario x, answers for its finishes
 --   can-play          == where the code finds that x is a scenario, its times can be made
---   scenario-ran      == what its execution answers
+--   scenario-ran      == what its execution answers;  row-ran: its finishes are the scenario's row
 -- Assumes nothing.
 use Prim.Native.Nat.{ℕ, zero, suc, _≤_}
 use mathlib.Core.Path.{_≡_, refl, sym, _∙_, ap, subst}
@@ -39,6 +39,9 @@ row-is : (v : View) (x : ℕ) → runOf v (timesOf v (numbered x)) .finishes ≡
 unfolding runOf row finishIn
 row-is v x = refl
 
+pub row-ran : (v : View) (x : ℕ) (c : List ℕ) (r : Ran) → c ≡ timesOf v (numbered x) → r ≡ runOf v c → r .finishes ≡ row v (numbered x)
+row-ran v x c r f e = ap (λ (y : Ran). y .finishes) e ∙ ap (λ d. runOf v d .finishes) f ∙ row-is v x
+
 module _ (s : Set) (k : Columns) (p : Prepared s k) where
   ran-is : (c : List ℕ) (r : Ran) → Times (viewOf k) c → r ≡ ran (view s) c → r ≡ runOf (viewOf k) c
   unfolding runOf
@@ -50,7 +53,7 @@ module _ (s : Set) (k : Columns) (p : Prepared s k) where
   ends-ran x ends c r h f e =
       let v = viewOf k in
       let z = scenario-range v (p .testable .sound) x (h .scenario) in
-      ap (λ (y : Ran). y .finishes) (ran-is c r (subst (Times v) (sym f) z) e) ∙ ap (λ d. runOf v d .finishes) f ∙ row-is v x
+      row-ran v x c r f (ran-is c r (subst (Times v) (sym f) z) e)
 
   pub lo-ran : (r : Ran) → r ≡ ran (view s) (k .lo) → r .finishes ≡ row (viewOf k) Lo
   unfolding runOf row finishIn timesOf

@@ -3,13 +3,15 @@
 ghost use mathlib.Core.Path.{_≡_};
 ghost use Rattle.model.specs.Sets.{view};
 ghost use Rattle.model.specs.Refusals.{refusal};
-ghost use Rattle.model.specs.Answers.{judged, finishRows, worsts as worstsOf, margins as marginsOf};
+ghost use Rattle.model.specs.Answers.{judged, assessed, finishRows, worsts as worstsOf, margins as marginsOf};
 
 mod rows;
 mod scenario;
+mod verdict;
 
 use checks::refusal_of;
 use columns::columns_of;
+use model::Assessed;
 use model::GOOD;
 use model::Judged;
 use model::Judgement;
@@ -19,20 +21,32 @@ use rows::margins_of;
 use rows::rows_of;
 use rows::worsts_of;
 use rows::zero_rows;
-use scenario::search;
+use verdict::search;
+
+// The judgement of a set with its times, and beside it the worst finishes of a fit set: one run of each scenario gives both.
+pub fn assess(s: Set) -> Assessed
+    ensures { λ r. ⌜ r ≡ assessed (view s) ⌝ }
+{
+    let refusal = refusal_of(s);
+    if refusal.number != GOOD {
+        let judged = Judged {
+            judgement: Judgement::Refused(refusal),
+            times: [0u16; 64],
+        };
+        return Assessed {
+            judged,
+            worsts: [0u16; 64],
+        };
+    }
+    search(s, columns_of(s))
+}
 
 // The judgement of a set, with the running times of the failing scenario beside it.
 pub fn judge(s: Set) -> Judged
     ensures { λ r. ⌜ r ≡ judged (view s) ⌝ }
 {
-    let refusal = refusal_of(s);
-    if refusal.number != GOOD {
-        return Judged {
-            judgement: Judgement::Refused(refusal),
-            times: [0u16; 64],
-        };
-    }
-    search(s, columns_of(s))
+    let a = assess(s);
+    a.judged
 }
 
 // The finishes of all scenarios: row 0 is LO, and row j that of HI job j.

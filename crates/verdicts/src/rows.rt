@@ -38,8 +38,8 @@ pub fn rows_of(s: Set, k: Columns) -> [[u16; 64]; 65]
     rows
 }
 
-// The worst finishes after one more run of a HI scenario.
-fn raise(k: Columns, worsts: [u16; 64], finishes: [u16; 64]) -> [u16; 64]
+// The worst finishes after one more run: those of the HI jobs are raised.
+pub fn raise(k: Columns, worsts: [u16; 64], finishes: [u16; 64]) -> [u16; 64]
     requires { ⌜ Testable k ⌝ }
     ensures { λ r. ⌜ r ≡ places (viewOf k) (worseIn (viewOf k) worsts finishes) ⌝ }
 {

@@ -1,23 +1,18 @@
-// The scenarios of the published test, and the search for the first required miss.
+// The scenarios of the published test: their running times, and how their runs end.
 ghost use mathlib.Core.Path.{_≡_};
 ghost use mathlib.Core.Bool.{cond, _&&_, _||_};
-ghost use Prim.Native.Nat.{_≤_, _<_};
+ghost use Prim.Native.Nat.{_≤_};
 ghost use Rattle.model.specs.declared.Scenario.the-variants.{Lo as LoOf};
 ghost use Rattle.model.specs.Scenarios.{timesOf, row};
 ghost use Rattle.columns.specs.Columns.{viewOf, Testable, Prepared};
-ghost use Rattle.verdicts.specs.Tests.{numbered, plays, Playable, unfitIn, found};
+ghost use Rattle.verdicts.specs.Tests.{numbered, plays, Playable};
 use columns::Columns;
-use measures::misses;
-use model::Judged;
-use model::Judgement;
-use model::Miss;
 use model::Scenario;
 use model::Set;
-use model::Verdict;
 use runs::execute;
 
 // Scenario 0 is LO, and scenario j HI of job j.
-fn scenario_of(x: usize) -> Scenario
+pub fn scenario_of(x: usize) -> Scenario
     requires { ⌜ x ≤ 64 ⌝ }
     ensures { λ r. ⌜ r ≡ numbered x ⌝ }
 {
@@ -93,57 +88,4 @@ pub fn ends_in(s: Set, k: Columns, x: usize, ends: [u16; 64]) -> [u16; 64]
 {
     let r = execute(s, times_in(k, x, ends));
     r.finishes
-}
-
-// The answer where job + 1 ends at the finish given, late, in scenario x.
-fn unfit_in(x: usize, job: usize, finish: u16, times: [u16; 64]) -> Judged
-    requires { ⌜ (x ≤ 64) × (job < 64) ⌝ }
-    ensures { λ r. ⌜ r ≡ unfitIn x job finish times ⌝ }
-{
-    let scenario = scenario_of(x);
-    let miss = Miss {
-        scenario,
-        job: job as u16 + 1,
-        finish,
-    };
-    Judged {
-        judgement: Judgement::Found(Verdict::Unfit(miss)),
-        times,
-    }
-}
-
-// The verdict, with the times beside it. The search leaves the loop over the jobs and the loop over the scenarios together.
-pub fn search(s: Set, k: Columns) -> Judged
-    requires { ⌜ Prepared s k ⌝ }
-    ensures { λ r. ⌜ r ≡ found (viewOf k) ⌝ }
-{
-    let n = k.n;
-    let ends = lo_ends(s, k);
-    let mut x: usize = 0;
-    let mut job: usize = 0;
-    let mut finish: u16 = 0;
-    let mut times = [0u16; 64];
-    'search: while x <= n {
-        if plays_in(k, x) {
-            times = times_in(k, x, ends);
-            let r = execute(s, times);
-            job = 0;
-            while job < n {
-                let switch = r.switch;
-                finish = r.finishes[job];
-                if misses(k.critical[job], k.deadlines[job], finish, switch) {
-                    break 'search;
-                }
-                job += 1;
-            }
-        }
-        x += 1;
-    }
-    if x <= n {
-        return unfit_in(x, job, finish, times);
-    }
-    Judged {
-        judgement: Judgement::Found(Verdict::Fit),
-        times: [0u16; 64],
-    }
 }

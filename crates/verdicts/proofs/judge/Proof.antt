@@ -1,32 +1,18 @@
--- `judge` meets its contract: refused as the checks say, or the verdict that the search finds.
+-- `judge` meets its contract: the judgement of what `assess` answers.
 -- Assumes nothing.
+use mathlib.Core.Path.{ap}
 use borrow.Author.Needs.{needs}
-use Rattle.laws.proofs.Answers.{good-of}
-use Rattle.verdicts.proofs.AnswerLaws.{refused-judged, found-judged}
-use Rattle.columns.specs.Columns.{Prepared}
-use Rattle.columns.proofs.Views.{prepared}
+use Rattle.model.specs.declared.Assessed.{Assessed}
+use Rattle.model.specs.Answers.{assessed}
 use Rattle.verdicts.proofs.judge.Statement.{statement}
 use Rattle.verdicts.proofs.judge.Tie as tie
 
-refusal-of-requires : tie.Need-refusal-of-requires
-refusal-of-requires c κs = search needs
+assess-requires : tie.Need-assess-requires
+assess-requires c κs = search needs
 
 returns : tie.Need-returns
-returns c = refused-judged _ _ (c .before .before .refusal-of .ensures) (c .if1 .taken)
-
-columns-of-requires : tie.Need-columns-of-requires
-columns-of-requires c κs = search needs
-
-ready : (c : tie.After-columns-of) → Prepared (c .before .before .before .before .args .s) (c .columns-of .result)
-ready c =
-    prepared _ _ (good-of _ _ (c .before .before .before .refusal-of .ensures) (c .before .if1 .left)) (search needs) (search needs)
-    (c .columns-of .ensures)
-
-search-requires : tie.Need-search-requires
-search-requires c κs = ready c
-
-returns-2 : tie.Need-returns-2
-returns-2 c = found-judged _ _ (ready (c .before)) _ (c .search .ensures)
+unfolding assessed
+returns c = ap (λ (a : Assessed). a .judged) (c .before .assess .ensures)
 
 pub judge-spec : {M : Type 1} → statement M
-judge-spec = tie.close (tie.spec refusal-of-requires returns columns-of-requires search-requires returns-2)
+judge-spec = tie.close (tie.spec assess-requires returns)
