@@ -9,7 +9,7 @@ ghost use Rattle.pages.specs.Pages.{page};
 
 mod lines;
 
-use analysis::judge;
+use analysis::assess;
 use lines::fit_page;
 use lines::unfit_page;
 use model::GOOD;
@@ -25,13 +25,15 @@ use plan_text::read;
 fn judged_page(s: Set) -> Page
     ensures { λ r. ⌜ r ≡ page (judgedText (view s) (judged (view s) .judgement) (judged (view s) .times)) ⌝ }
 {
-    let j = judge(s);
+    let a = assess(s);
+    let j = a.judged;
     let judgement = j.judgement;
     let times = j.times;
+    let worsts = a.worsts;
     match judgement {
         Judgement::Refused(refusal) => refused_page(refusal),
         Judgement::Found(verdict) => match verdict {
-            Verdict::Fit => fit_page(s),
+            Verdict::Fit => fit_page(s, worsts),
             Verdict::Unfit(miss) => unfit_page(s, miss, times),
         },
     }

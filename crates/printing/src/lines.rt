@@ -11,7 +11,6 @@ ghost use Rattle.model.specs.Texts.{line};
 ghost use Rattle.model.specs.Printed.{fitText, unfitText};
 ghost use Rattle.pages.specs.Pages.{page, put};
 ghost use Rattle.printing.specs.Lines.{jobLines};
-use analysis::worst_finishes;
 use checks::span_of;
 use model::Miss;
 use model::Set;
@@ -42,13 +41,13 @@ fn with_jobs(p: Page, s: Set, worsts: [u16; 64]) -> Page
 }
 
 // "FIT and the span; then for each job its number, worst finish and margin."
-pub fn fit_page(s: Set) -> Page
-    requires { ⌜ isGood (refusal (view s)) ≡ true ⌝ }
+pub fn fit_page(s: Set, worsts: [u16; 64]) -> Page
+    requires { ⌜ (isGood (refusal (view s)) ≡ true) × (worsts ≡ worstsOf (view s)) ⌝ }
     ensures { λ r. ⌜ r ≡ page (fitText (view s)) ⌝ }
 {
     let word = with_bytes(empty_page(), b"FIT");
     let head = with_byte(with_field(word, span_of(s)), 10);
-    with_jobs(head, s, worst_finishes(s))
+    with_jobs(head, s, worsts)
 }
 
 fn wide(x: u16) -> u64

@@ -24,18 +24,15 @@ with-field-requires c κs = search needs
 with-byte-requires : tie.Need-with-byte-requires
 with-byte-requires c κs = search needs
 
-worst-finishes-requires : tie.Need-worst-finishes-requires
-worst-finishes-requires c κs = search needs
-
 with-jobs-requires : tie.Need-with-jobs-requires
 with-jobs-requires c κs = search needs
 
 returns : tie.Need-returns
 unfolding fitWord
 returns c =
-    let word = c .before .before .before .before .before in
-    fit-answer _ _ _ _ _ _ _ (word .before .before .empty-page .ensures) (word .with-bytes .ensures) (c .before .before .before .before .span-of .ensures)
-    (c .before .before .before .with-field .ensures) (c .before .before .with-byte .ensures) (c .with-jobs .ensures)
+    let word = c .before .before .before .before in
+    fit-answer _ _ _ _ _ _ _ (word .before .before .empty-page .ensures) (word .with-bytes .ensures) (c .before .before .before .span-of .ensures)
+    (c .before .before .with-field .ensures) (c .before .with-byte .ensures) (c .with-jobs .ensures)
 
 pub fit-page-spec : {M : Type 1} → statement M
 fit-page-spec =
@@ -47,6 +44,5 @@ fit-page-spec =
     span-of-requires
     with-field-requires
     with-byte-requires
-    worst-finishes-requires
     with-jobs-requires
     returns)
