@@ -18,9 +18,10 @@ use Rattle.model.specs.declared.Switch.{Switch}
 use Rattle.model.specs.declared.Refusal.{Refusal}
 use Rattle.model.specs.declared.Ran.{Ran}
 use Rattle.model.specs.declared.Judged.{Judged}
+use Rattle.model.specs.declared.Assessed.{Assessed}
 use Rattle.columns.specs.declared.Columns.{Columns}
 use Rattle.ground.specs.Promises.{IsHi, Breaks, Places, FaultOf}
-use Rattle.ground.specs.Promises.{RefusalOf, SpanOf, ColumnsOf, Judges, FinishRows, RowsRefusal, WorstFinishes, Margins, Executes, Slots}
+use Rattle.ground.specs.Promises.{RefusalOf, SpanOf, ColumnsOf, Assesses, Judges, FinishRows, RowsRefusal, WorstFinishes, Margins, Executes, Slots}
 use Rattle.ground.specs.Promises.{Picks, Parts, PartRefusal, MakesTables, InRange, Outruns, IsEnabled, Misses, Worse, MarginOf}
 
 pub one : {A : Type 0} {x y z : A} → x ≡ z → y ≡ z → x ≡ y
@@ -49,6 +50,10 @@ pick-one o a d t x y p q = one (p .4) (q .4)
 -- The judgement, and the times beside it.
 pub judge-one : (s : Set) (x y : Judged) → Judges s x → Judges s y → x ≡ y
 judge-one s x y p q = one p q
+
+-- With them, where it is fit, the worst finishes.
+pub assess-one : (s : Set) (x y : Assessed) → Assesses s x → Assesses s y → x ≡ y
+assess-one s x y p q = one p q
 
 -- The finish rows: all 65, at each of their 64 places.
 pub finish-rows-one : (s : Set) (x y : List (List ℕ)) → FinishRows s x → FinishRows s y → x ≡ y

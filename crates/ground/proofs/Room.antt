@@ -11,12 +11,13 @@ use Rattle.model.specs.declared.Set.{Set}
 use Rattle.model.specs.declared.Refusal.{Refusal}
 use Rattle.model.specs.declared.Ran.{Ran}
 use Rattle.model.specs.declared.Judged.{Judged}
+use Rattle.model.specs.declared.Assessed.{Assessed}
 use Rattle.model.specs.Sets.{span}
 use Rattle.model.specs.Refusals.{refusal}
-use Rattle.model.specs.Answers.{judged, finishRows, worsts, margins, ran, slotsRefusal, slotsIn, tablesRefusal, loTableIn, hiTableIn}
+use Rattle.model.specs.Answers.{judged, assessed, finishRows, worsts, margins, ran, slotsRefusal, slotsIn, tablesRefusal, loTableIn, hiTableIn}
 use Rattle.theory.specs.Words.{Alike}
 use Rattle.theory.proofs.Results.{room-is-no-part}
-use Rattle.ground.specs.Promises.{RefusalOf, SpanOf, Judges, FinishRows, RowsRefusal, WorstFinishes, Margins, Executes, Slots, MakesTables}
+use Rattle.ground.specs.Promises.{RefusalOf, SpanOf, Assesses, Judges, FinishRows, RowsRefusal, WorstFinishes, Margins, Executes, Slots, MakesTables}
 use Rattle.ground.proofs.OneAnswer.{one}
 
 module _ (s t : Set) (h : Alike s t) where
@@ -31,6 +32,10 @@ module _ (s t : Set) (h : Alike s t) where
   -- The judgement, and the times beside it.
   pub judge-alike : (x y : Judged) → Judges s x → Judges t y → x ≡ y
   judge-alike x y p q = one p (q ∙ sym (room-is-no-part judged s t h))
+
+  -- With them, where it is fit, the worst finishes.
+  pub assess-alike : (x y : Assessed) → Assesses s x → Assesses t y → x ≡ y
+  assess-alike x y p q = one p (q ∙ sym (room-is-no-part assessed s t h))
 
   -- The finish rows, and the refusal beside them.
   pub finish-rows-alike : (x y : List (List ℕ)) → FinishRows s x → FinishRows t y → x ≡ y

@@ -1,7 +1,7 @@
 -- What the public functions promise, as relations between what a call is given and what it answers. Each is the function's own promise, as the
 -- kit reads it off the contract (`Reads.Post`), and no copy of it: of the lifetimes, the arguments, the answer, and the arguments at exit.
 --   RefusalOf s x     == `refusal_of` may answer x for the set s, by its promise;  so for the others:
---   IsHi, Breaks, Places, FaultOf, SpanOf, ColumnsOf, Judges, FinishRows, RowsRefusal, WorstFinishes, Margins
+--   IsHi, Breaks, Places, FaultOf, SpanOf, ColumnsOf, Assesses, Judges, FinishRows, RowsRefusal, WorstFinishes, Margins
 --   Executes s c x    == `execute`, with the running times c
 --   Picks o a d t x   == `pick`, lent an order o, arrivals a and who is done d, at the instant t
 --   Parts l t x       == `part` of the table l from the instant t: the slice that it answers holds x;  PartRefusal: its companion
@@ -24,6 +24,7 @@ use Rattle.model.specs.declared.Switch.{Switch}
 use Rattle.model.specs.declared.Refusal.{Refusal}
 use Rattle.model.specs.declared.Ran.{Ran}
 use Rattle.model.specs.declared.Judged.{Judged}
+use Rattle.model.specs.declared.Assessed.{Assessed}
 use Rattle.columns.specs.declared.Columns.{Columns}
 use Rattle.rules.proofs.jobs.is_hi.Reads.{Post as is-hi}
 use Rattle.rules.proofs.jobs.breaks.Reads.{Post as breaks}
@@ -38,6 +39,7 @@ use Rattle.measures.proofs.misses.Reads.{Post as misses}
 use Rattle.measures.proofs.worse.Reads.{Post as worse}
 use Rattle.measures.proofs.margin_of.Reads.{Post as margin-of}
 use Rattle.columns.proofs.columns_of.Reads.{Post as columns-of}
+use Rattle.verdicts.proofs.assess.Reads.{Post as assess}
 use Rattle.verdicts.proofs.judge.Reads.{Post as judge}
 use Rattle.verdicts.proofs.finish_rows.Reads.{Post as finish-rows}
 use Rattle.verdicts.proofs.rows_refusal.Reads.{Post as rows-refusal}
@@ -70,6 +72,9 @@ SpanOf s x = span-of tt (s, tt) x (s, tt)
 
 abbrev pub ColumnsOf : Set → Columns → Type 0
 ColumnsOf s x = columns-of tt (s, tt) x (s, tt)
+
+abbrev pub Assesses : Set → Assessed → Type 0
+Assesses s x = assess tt (s, tt) x (s, tt)
 
 abbrev pub Judges : Set → Judged → Type 0
 Judges s x = judge tt (s, tt) x (s, tt)
