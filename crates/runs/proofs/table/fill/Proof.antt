@@ -3,7 +3,6 @@
 use Prim.Native.Nat.{_-_}
 use mathlib.Core.Path.{sym}
 use native.Mathlib.Omega.{arith}
-use borrow.Author.Needs.{needs}
 use Rattle.runs.proofs.Advance.{prefix-count}
 use Rattle.runs.proofs.SlotTurns.{Turn, first-turn, next-turn, last-turn, can-turn}
 use Rattle.runs.proofs.table.fill.Statement.{statement}
