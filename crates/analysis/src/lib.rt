@@ -1,5 +1,7 @@
 // The analysis of document 01, as one library: the pick, one run and its slots, the scenarios, finish rows, the verdict, worst finishes and margins, the two tables, the part.
 // Every function is total. Each but the pick and the part refuses by checks 2 to 7 first.
+#![tactic(auto)]
+
 pub use parts::{part, part_refusal};
 pub use picks::pick;
 pub use runs::{execute, slots};

@@ -1,5 +1,7 @@
 // Runs the cases of standard input through the library, and prints its answers.
 // A line builds a set (crate case_text), or begins with `? ` and asks something of it (crate questions). Any other line is a comment.
+#![tactic(auto)]
+
 use answer_text::bytes;
 use case_text::{built, first, line_at, next_line, no_set, rest};
 use libc::STDOUT_FILENO;

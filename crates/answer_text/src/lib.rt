@@ -1,4 +1,6 @@
 // An answer of the library as text, written to a file that is open: words and numbers, a space before each. Every function is total.
+#![tactic(auto)]
+
 mod answers;
 mod tables;
 mod values;

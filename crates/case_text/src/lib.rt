@@ -5,6 +5,8 @@
 //   counts N LO HI            the three counts as given, over whatever the room holds
 //   text HEX                  a text, two hex digits a byte, at most 5,000 bytes
 // Every function is total. Any other line builds nothing, and a text leaves the set as it is.
+#![tactic(auto)]
+
 mod lines;
 mod numbers;
 mod sets;

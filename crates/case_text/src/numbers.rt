@@ -2,7 +2,7 @@
 ghost use Rattle.std.specs.Prelude.{◌≤◌};
 
 // The numbers of a line, as many as `count`, with room for 72.
-#[derive(Drop)]
+#[derive(Clone, Copy)]
 pub struct Numbers {
     pub values: [u64; 72],
     pub count: usize,

@@ -1,4 +1,6 @@
 // Refusals 2 to 7 of document 01, and the span.
+#![tactic(auto)]
+
 ghost use Rattle.std.specs.Prelude.{◌≡◌};
 ghost use Rattle.model.specs.Sets.{view};
 ghost use Rattle.model.specs.Refusals.{refusal};

@@ -1,4 +1,6 @@
 // A set column by column: the engine is lent the columns that it looks at, and copies none.
+#![tactic(auto)]
+
 ghost use Rattle.std.specs.Prelude.{◌≡◌};
 ghost use Rattle.columns.specs.Columns.{columns_of};
 
@@ -6,7 +8,7 @@ use model::Set;
 use rules::jobs::is_hi;
 use rules::orders::places;
 
-#[derive(Drop)]
+#[derive(Clone, Copy)]
 pub struct Columns {
     pub n: usize,
     pub m: usize,

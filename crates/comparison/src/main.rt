@@ -1,6 +1,8 @@
 // Does the cases of data/cases.txt through the library, and holds each answer against the one that stands in the file, byte by byte.
 // A line builds a set (crate case_text), or begins with `? ` and asks something of it (crate questions), or gives a text, of which `? print` asks what is printed for it; directly behind it stand the expected
 // lines of the answer, each after a `=`. Any other line is a comment. Prints how many answers of each kind agree, and each case that differs.
+#![tactic(auto)]
+
 mod answer;
 mod tally;
 

@@ -3,7 +3,7 @@ use answer_text::{bytes, number};
 use case_text::{first, line_at, next_line, nth, numbers_in, rest};
 
 // The counts of the kinds in the order in which they are printed, and last that of the differences.
-#[derive(Drop)]
+#[derive(Clone, Copy)]
 pub struct Tally {
     pub counts: [u64; 23],
 }

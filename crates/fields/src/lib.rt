@@ -1,25 +1,27 @@
 // The pieces of a plan text that stand between two places of it: a number, and given bytes. A function answers the place where the text goes on, or
 // the one where it is stuck; a place past the text's end counts as its end.
+#![tactic(auto)]
+
 ghost use Rattle.std.specs.Prelude.{◌≤◌, ◌≡◌, [], ◌∷◌, length};
 ghost use Rattle.forms.specs.Forms.{lf, begins, grows, more, number, byte as given, bytes};
 ghost use Rattle.fields.specs.Cursors.{Found, Steps};
 
 // A number that has been read, and where the text goes on behind it.
-#[derive(Drop)]
+#[derive(Clone, Copy)]
 pub struct Got {
     pub value: u16,
     pub at: usize,
 }
 
 // A number, or the place where the text is no number any more.
-#[derive(Drop)]
+#[derive(Clone, Copy)]
 pub enum Field {
     Number(Got),
     Stuck(usize),
 }
 
 // Where the text goes on, or where it is stuck.
-#[derive(Drop)]
+#[derive(Clone, Copy)]
 pub enum Step {
     At(usize),
     Stuck(usize),

@@ -1,4 +1,6 @@
 // The program `judge`: reads a plan text from standard input, and prints its answer.
+#![tactic(auto)]
+
 fn main() {
     let mut room = io::buffer();
     let n = io::read_full(0, &mut room);

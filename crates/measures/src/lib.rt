@@ -1,5 +1,7 @@
 // The tests of one job that runs, scenarios and tables go by: its running time against its range, its slots against its budgets, its finish against
 // its deadline and against other finishes.
+#![tactic(auto)]
+
 ghost use Rattle.std.specs.Prelude.{◌≡◌, cond, not, ◌&&◌, max, eqb, leb, pos, ◌-ℤ◌};
 ghost use Rattle.measures.specs.Measures.{missed_by, enabled_by};
 

@@ -1,14 +1,15 @@
 // The types of document 01. What they mean is in specs/, file by file in the document's order.
+#![tactic(auto)]
 
 // A job's level of criticality. The mode of a run is one of the same two.
-#[derive(Drop)]
+#[derive(Clone, Copy)]
 pub enum Level {
     Lo,
     Hi,
 }
 
 // "A job has an arrival A and a deadline D, a level, a LO budget and a HI budget."
-#[derive(Drop)]
+#[derive(Clone, Copy)]
 pub struct Job {
     pub arrival: u16,
     pub deadline: u16,
@@ -18,14 +19,14 @@ pub struct Job {
 }
 
 // Job numbers, highest priority first, with room for 64. Room beyond the count is no part of the order.
-#[derive(Drop)]
+#[derive(Clone, Copy)]
 pub struct Order {
     pub entries: [u16; 64],
     pub count: usize,
 }
 
 // "A set has N jobs, numbered 1 to N, N from 1 to 64." Job j stands at place j - 1, and `count` is N as given.
-#[derive(Drop)]
+#[derive(Clone, Copy)]
 pub struct Set {
     pub jobs: [Job; 64],
     pub count: usize,
@@ -34,7 +35,7 @@ pub struct Set {
 }
 
 // "Each answer is the number and one place value." Number 0 with place 0 is good.
-#[derive(Drop)]
+#[derive(Clone, Copy)]
 pub struct Refusal {
     pub number: u8,
     pub place: u64,
@@ -63,14 +64,14 @@ pub const RUN: u8 = 9;
 pub const INSTANT: u8 = 10;
 
 // What the reader answers for a text: its set, all 0 where it is refused.
-#[derive(Drop)]
+#[derive(Clone, Copy)]
 pub struct Reading {
     pub refusal: Refusal,
     pub set: Set,
 }
 
 // A run between two slots: the mode, and for each job the slots that it has had and whether it is done.
-#[derive(Drop)]
+#[derive(Clone, Copy)]
 pub struct State {
     pub mode: Level,
     pub had: [u16; 64],
@@ -78,21 +79,21 @@ pub struct State {
 }
 
 // Who gets a slot: a job, or nobody.
-#[derive(Drop)]
+#[derive(Clone, Copy)]
 pub enum Pick {
     Job(u16),
     Idle,
 }
 
 // The instant of a run's switch, if there is one.
-#[derive(Drop)]
+#[derive(Clone, Copy)]
 pub enum Switch {
     Never,
     At(u16),
 }
 
 // The answer of one given run: each job's finish, 0 for a dropped one, and the switch.
-#[derive(Drop)]
+#[derive(Clone, Copy)]
 pub struct Ran {
     pub refusal: Refusal,
     pub finishes: [u16; 64],
@@ -100,41 +101,41 @@ pub struct Ran {
 }
 
 // A scenario of the published test: LO, or HI of a job.
-#[derive(Drop)]
+#[derive(Clone, Copy)]
 pub enum Scenario {
     Lo,
     Hi(u16),
 }
 
 // A required deadline that a scenario misses.
-#[derive(Drop)]
+#[derive(Clone, Copy)]
 pub struct Miss {
     pub scenario: Scenario,
     pub job: u16,
     pub finish: u16,
 }
 
-#[derive(Drop)]
+#[derive(Clone, Copy)]
 pub enum Verdict {
     Fit,
     Unfit(Miss),
 }
 
-#[derive(Drop)]
+#[derive(Clone, Copy)]
 pub enum Judgement {
     Refused(Refusal),
     Found(Verdict),
 }
 
 // A judgement, and beside it the running times of the failing scenario, all 0 where there is none.
-#[derive(Drop)]
+#[derive(Clone, Copy)]
 pub struct Judged {
     pub judgement: Judgement,
     pub times: [u16; 64],
 }
 
 // A judgement with its times, and beside it the worst finishes of a fit set, all 0 for an unfit or a refused one.
-#[derive(Drop)]
+#[derive(Clone, Copy)]
 pub struct Assessed {
     pub judged: Judged,
     pub worsts: [u16; 64],

@@ -1,5 +1,7 @@
 // Pages: what is to be printed, as a value; the writers that put bytes, numbers and margins behind what a page holds; and the lines that stand by themselves.
 // Every function is total: what finds no room on the page is left out.
+#![tactic(auto)]
+
 ghost use Rattle.std.specs.Prelude.{◌≡◌, [], ◌∷◌, pos, ◌-ℤ◌};
 ghost use Rattle.model.specs.Texts.{decimal};
 ghost use Rattle.model.specs.Printed.{signed};
@@ -8,7 +10,7 @@ ghost use Rattle.pages.specs.Pages.{page, put};
 pub mod lines;
 
 // The first `length` bytes are to be printed; the others are 0.
-#[derive(Drop)]
+#[derive(Clone, Copy)]
 pub struct Page {
     pub bytes: [u8; 1024],
     pub length: usize,

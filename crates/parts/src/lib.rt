@@ -1,4 +1,6 @@
 // The part of a table from an instant to its end: a slice of the table that is lent, no copy, with the refusal beside it.
+#![tactic(auto)]
+
 ghost use Rattle.std.specs.Prelude.{◌≡◌};
 ghost use Rattle.model.specs.Tables.{part as part_of};
 ghost use Rattle.model.specs.Refusals.{check_instant};

@@ -1,4 +1,6 @@
 // The pick: who gets a slot. Every engine uses this one function. It looks at the numbers lent to it and copies only what it compares.
+#![tactic(auto)]
+
 ghost use Rattle.std.specs.Prelude.{◌≡◌, suc};
 ghost use Rattle.model.specs.Lists.{at};
 ghost use Rattle.model.specs.Runs.{ready};

@@ -1,4 +1,6 @@
 // The reader of the plan text (document 01, "Plan text and program").
+#![tactic(auto)]
+
 ghost use Rattle.model.specs.Texts.{Reads};
 
 mod answers;

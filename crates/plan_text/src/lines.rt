@@ -7,7 +7,7 @@ ghost use Rattle.plan_text.specs.Parts.{RowRead, limit_at, limits, behind_at};
 use fields::{Field, Step, ending, expect, number};
 
 // The numbers of a line, with room for 64, and where the text goes on behind them.
-#[derive(Drop)]
+#[derive(Clone, Copy)]
 pub struct Row {
     pub values: [u16; 64],
     pub step: Step,

@@ -9,7 +9,7 @@ use model::Job;
 use readings::{job_of, level_number, no_job};
 
 // The jobs of a text, with room for 64, the number of HI jobs, and where the text goes on behind them.
-#[derive(Drop)]
+#[derive(Clone, Copy)]
 pub struct Section {
     pub jobs: [Job; 64],
     pub hi: usize,

@@ -1,4 +1,6 @@
 // What the program prints for a text (document 01, "Plan text and program").
+#![tactic(auto)]
+
 ghost use Rattle.std.specs.Prelude.{◌≡◌};
 ghost use Rattle.model.specs.declared.Reading.{Reading as ReadingOf};
 ghost use Rattle.model.specs.Sets.{view};

@@ -9,6 +9,8 @@
 //   tables in M and N         of both tables, made in lent room of M and N entries that held 7, the refusal and all of the room, a line each
 //   part from T of N          of the HI table, made in room of N entries that held 7, the part from instant T, and the companion refusal
 //   at T done F ..            who gets slot T by the LO order, where F is 1 for a job that is done
+#![tactic(auto)]
+
 mod jobs;
 mod slots;
 

@@ -1,4 +1,6 @@
 // What the reader's answer is made of: a job of the numbers of its line, no job, no set, and the answer with its refusal.
+#![tactic(auto)]
+
 ghost use Rattle.std.specs.Prelude.{◌≡◌};
 ghost use Rattle.model.specs.Sets.{blank};
 ghost use Rattle.model.specs.Texts.{level_number, no_set};

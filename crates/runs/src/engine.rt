@@ -10,7 +10,7 @@ use model::{GOOD, Level, Pick, Ran, Refusal, State, Switch};
 use picks::pick;
 
 // How far a run has come: its state, who got the last slot, the switch so far, and the finishes so far, 0 where there is none.
-#[derive(Drop)]
+#[derive(Clone, Copy)]
 pub struct Progress {
     pub state: State,
     pub slot: u16,

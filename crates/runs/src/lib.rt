@@ -1,4 +1,6 @@
 // One run: what it ends with, and who gets each of its slots. Both functions are total, and refuse by checks 2 to 7 first.
+#![tactic(auto)]
+
 ghost use Rattle.std.specs.Prelude.{◌≡◌, true, length};
 ghost use Rattle.model.specs.Sets.{view, span as span_of};
 ghost use Rattle.model.specs.Refusals.{is_good, refusal};

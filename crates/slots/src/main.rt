@@ -2,6 +2,8 @@
 // the run is the failing scenario of an unfit set, and scenario 0 of a fit one.
 // It prints `REFUSED number place` where the text or the run is refused, and else four lines: `times` and `ends`, with a number for each job and 0 for
 // the end of a dropped one; `switch` and its instant, or `never`; and `slots`, who gets each slot, 0 for idle.
+#![tactic(auto)]
+
 ghost use Rattle.std.specs.Prelude.{◌≡◌, length};
 
 mod input;

@@ -1,4 +1,6 @@
 // The span of a set.
+#![tactic(auto)]
+
 ghost use Rattle.std.specs.Prelude.{◌<◌, max, ◌≡◌};
 ghost use Rattle.model.specs.Sets.{view, span};
 

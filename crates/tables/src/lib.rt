@@ -1,4 +1,6 @@
 // The two tables of a set, which an executive runs by: the LO table, and the HI table from a switch on.
+#![tactic(auto)]
+
 ghost use Rattle.std.specs.Prelude.{◌≡◌, length};
 ghost use Rattle.model.specs.Sets.{view};
 ghost use Rattle.model.specs.Answers.{tables_refusal, lo_table_in, hi_table_in};

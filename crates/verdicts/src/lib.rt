@@ -1,5 +1,7 @@
 // The published test of document 01: the verdict, finish rows, worst finishes and margins, from the runs of the scenarios.
 // Every function is total, and refuses by checks 2 to 7 first.
+#![tactic(auto)]
+
 ghost use Rattle.std.specs.Prelude.{◌≡◌};
 ghost use Rattle.model.specs.Sets.{view};
 ghost use Rattle.model.specs.Refusals.{refusal};
