@@ -1,0 +1,27 @@
+-- `slots` meets its contract: refused, it leaves the room as it is; else the run's slots are written there.
+use Rattle.std.proofs.Common.{rules}
+use mathlib.Core.Path.{◌≡◌}
+use lib.ListN.{length}
+use Rattle.columns.specs.Columns.{Prepared}
+use Rattle.columns.proofs.Views.{prepared}
+use Rattle.runs.proofs.SlotAnswers.{slots_pass, fillable, kept-slots, made_slots}
+use Rattle.runs.proofs.slots.Goals as goal
+
+pub returns-then-refused-ne-GOOD : goal.returns-then-refused-ne-GOOD
+returns-then-refused-ne-GOOD c = let r = c.slots_refusal-refused.ensures in
+    record { answer = r; written = kept-slots _ _ c.args.table.now _ r c.if-refused-ne-GOOD.true }
+
+pub span_in-requires : goal.span_in-requires
+span_in-requires c = (slots_pass _ _ _ _ c.slots_refusal-refused.ensures c.if-refused-ne-GOOD.false).0
+
+pub fill-requires : goal.fill-requires
+fill-requires c = (
+      fillable _ _ (let h : Prepared c.args.s c.columns_of.result = let l = (let h : (length c.args.s.lo.entries ≡ 64) × (length c.args.s.hi.entries ≡ 64) × (length c.args.times ≡ 64) = (search rules, search rules, search rules) in h) in
+    prepared _ _ (slots_pass _ _ _ _ c.slots_refusal-refused.ensures c.if-refused-ne-GOOD.false).0 l.0 l.1 c.columns_of.ensures in h) _ _ c.span_in.ensures (slots_pass _ _ _ _ c.slots_refusal-refused.ensures c.if-refused-ne-GOOD.false).1,
+      (let h : (length c.args.s.lo.entries ≡ 64) × (length c.args.s.hi.entries ≡ 64) × (length c.args.times ≡ 64) = (search rules, search rules, search rules) in h).2,
+    )
+
+pub returns : goal.returns
+returns c = let r = c.slots_refusal-refused.ensures in
+    record { answer = r; written = made_slots _ _ (let h : Prepared c.args.s c.columns_of.result = let l = (let h : (length c.args.s.lo.entries ≡ 64) × (length c.args.s.hi.entries ≡ 64) × (length c.args.times ≡ 64) = (search rules, search rules, search rules) in h) in
+    prepared _ _ (slots_pass _ _ _ _ c.slots_refusal-refused.ensures c.if-refused-ne-GOOD.false).0 l.0 l.1 c.columns_of.ensures in h) _ _ _ _ r c.if-refused-ne-GOOD.false c.fill.ensures }
