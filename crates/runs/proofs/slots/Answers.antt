@@ -15,13 +15,21 @@ pub span_in-requires : goal.span_in-requires
 span_in-requires c = (slots_pass _ _ _ _ c.slots_refusal-refused.ensures c.if-refused-ne-GOOD.false).0
 
 pub fill-requires : goal.fill-requires
-fill-requires c = (
-      fillable _ _ (let h : Prepared c.args.s c.columns_of.result = let l = (let h : (length c.args.s.lo.entries ≡ 64) × (length c.args.s.hi.entries ≡ 64) × (length c.args.times ≡ 64) = (search rules, search rules, search rules) in h) in
-    prepared _ _ (slots_pass _ _ _ _ c.slots_refusal-refused.ensures c.if-refused-ne-GOOD.false).0 l.0 l.1 c.columns_of.ensures in h) _ _ c.span_in.ensures (slots_pass _ _ _ _ c.slots_refusal-refused.ensures c.if-refused-ne-GOOD.false).1,
-      (let h : (length c.args.s.lo.entries ≡ 64) × (length c.args.s.hi.entries ≡ 64) × (length c.args.times ≡ 64) = (search rules, search rules, search rules) in h).2,
-    )
+fill-requires c =
+    let pass = slots_pass _ _ _ _ c.slots_refusal-refused.ensures c.if-refused-ne-GOOD.false in
+    let lo_full : length c.args.s.lo.entries ≡ 64 = search rules in
+    let hi_full : length c.args.s.hi.entries ≡ 64 = search rules in
+    let times_full : length c.args.times ≡ 64 = search rules in
+    (fillable _ _ (prepared _ _ pass.0 lo_full hi_full c.columns_of.ensures) _ _ c.span_in.ensures pass.1, times_full)
 
 pub returns : goal.returns
-returns c = let r = c.slots_refusal-refused.ensures in
-    record { answer = r; written = made_slots _ _ (let h : Prepared c.args.s c.columns_of.result = let l = (let h : (length c.args.s.lo.entries ≡ 64) × (length c.args.s.hi.entries ≡ 64) × (length c.args.times ≡ 64) = (search rules, search rules, search rules) in h) in
-    prepared _ _ (slots_pass _ _ _ _ c.slots_refusal-refused.ensures c.if-refused-ne-GOOD.false).0 l.0 l.1 c.columns_of.ensures in h) _ _ _ _ r c.if-refused-ne-GOOD.false c.fill.ensures }
+returns c =
+    let r = c.slots_refusal-refused.ensures in
+    let pass = slots_pass _ _ _ _ r c.if-refused-ne-GOOD.false in
+    let lo_full : length c.args.s.lo.entries ≡ 64 = search rules in
+    let hi_full : length c.args.s.hi.entries ≡ 64 = search rules in
+    record {
+      answer = r;
+      written =
+        made_slots _ _ (prepared _ _ pass.0 lo_full hi_full c.columns_of.ensures) _ _ _ _ r c.if-refused-ne-GOOD.false c.fill.ensures;
+    }
