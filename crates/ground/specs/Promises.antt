@@ -9,7 +9,7 @@
 --   Slots s c l x after   == `slots`, with the running times c, lent room that holds l: it answers x, and the room holds `after`
 --   MakesTables s lo hi x lo_after hi_after   == `make_tables`, lent room that holds lo and hi: it answers x, and the room holds lo_after and hi_after
 use Rattle.std.specs.Prelude.{ℕ, Bool, List, ℤ}
-use Rattle.std.specs.Borrow.{GName, Bor}
+use Rattle.std.specs.Borrow.{GName, Bor, MutBor}
 use contract.Lifetimes.{Lfts}
 use Rattle.model.specs.declared.Level.{Level}
 use Rattle.model.specs.declared.Job.{Job}
@@ -108,12 +108,16 @@ Worse h w f x = worse tt (h, (w, (f, tt))) x (h, (w, (f, tt)))
 abbrev pub MarginOf : ℕ → ℕ → ℤ → Type 0
 MarginOf d w x = margin_of tt (d, (w, tt)) x (d, (w, tt))
 
--- Where a lent slice stands: its address, and the name by which the logic follows what it holds. `slice p l`: the slice at p, which holds l.
+-- Where a lent slice stands: its address, and the name by which the logic follows what it holds, if it is lent to be written. `slice p l`: the slice
+-- at p, lent to be read, which holds l;  `room p l`: lent to be written.
 abbrev pub Spot : Type 0
 Spot = (ℕ × ℕ) × GName
 
 abbrev pub slice : {A : Type 0} → Spot → List A → Bor (List A)
-slice p l = record { ref_ptr = p.0; ghost_name = p.1; now = l }
+slice p l = record { ref_ptr = p.0; now = l }
+
+abbrev pub room : {A : Type 0} → Spot → List A → MutBor (List A)
+room p l = record { ref_ptr = p.0; ghost_name = p.1; now = l }
 
 -- Wherever the slices stand, and however long they are lent.
 abbrev pub Picks : List ℕ → List ℕ → List Bool → ℕ → Pick → Type 0
@@ -128,9 +132,9 @@ abbrev pub PartRefusal : List ℕ → ℕ → Refusal → Type 0
 PartRefusal l t x = (κs : Lfts 1) × (p : Spot) × part_refusal κs (slice p l, (t, tt)) x (slice p l, (t, tt))
 
 abbrev pub Slots : Set → List ℕ → List ℕ → Refusal → List ℕ → Type 0
-Slots s c l x after = (κs : Lfts 1) × (p : Spot) × slots κs (s, (c, (slice p l, tt))) x (s, (c, (slice p after, tt)))
+Slots s c l x after = (κs : Lfts 1) × (p : Spot) × slots κs (s, (c, (room p l, tt))) x (s, (c, (room p after, tt)))
 
 abbrev pub MakesTables : Set → List ℕ → List ℕ → Refusal → List ℕ → List ℕ → Type 0
 MakesTables s lo hi x lo_after hi_after =
     (κs : Lfts 2) × (p q : Spot) ×
-    make_tables κs (s, (slice p lo, (slice q hi, tt))) x (s, (slice p lo_after, (slice q hi_after, tt)))
+    make_tables κs (s, (room p lo, (room q hi, tt))) x (s, (room p lo_after, (room q hi_after, tt)))
