@@ -3,14 +3,14 @@
 --   stuck-before, goes_on             == two parts in a row: the first is stuck; the second goes on where it leads
 --   leads                             == where a part leads is in the text
 -- Assumes nothing.
-use Prim.Native.Nat.{ℕ, ◌+◌, ◌-◌, ◌≤◌, ◌<◌}
+use Prim.Native.Nat.{ℕ, ◌+◌, ◌≤◌, ◌<◌}
 use mathlib.Core.Path.{◌≡◌, ◌∙◌, ap}
 use mathlib.Core.List.{List}
 use native.Mathlib.Omega.{arith}
 use borrow.Author.Tests.{eq-eqb, ne_eqb}
 use lib.Seq.{drop-length}
 use lib.ListN.{length, get_or, drop_of_length-le}
-use Rattle.forms.specs.Forms.{Form, scan, bytes}
+use Rattle.forms.specs.Forms.{Form, scan}
 use Rattle.forms.specs.Forms.Form.{byte}
 use Rattle.fields.specs.declared.Step.{Step}
 use Rattle.fields.specs.declared.Step.TheVariants.{At, Stuck}

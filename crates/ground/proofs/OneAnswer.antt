@@ -9,9 +9,6 @@ use mathlib.Core.Path.{◌≡◌, sym, ◌∙◌}
 use mathlib.Core.Bool.{Bool}
 use mathlib.Core.List.{List}
 use lib.IntN.{ℤ}
-use Rattle.model.specs.declared.Level.{Level}
-use Rattle.model.specs.declared.Job.{Job}
-use Rattle.model.specs.declared.Order.{Order}
 use Rattle.model.specs.declared.Set.{Set}
 use Rattle.model.specs.declared.Pick.{Pick}
 use Rattle.model.specs.declared.Switch.{Switch}
@@ -20,7 +17,6 @@ use Rattle.model.specs.declared.Ran.{Ran}
 use Rattle.model.specs.declared.Judged.{Judged}
 use Rattle.model.specs.declared.Assessed.{Assessed}
 use Rattle.columns.specs.declared.Columns.{Columns}
-use Rattle.ground.specs.Promises.{IsHi, Breaks, Places, FaultOf}
 use Rattle.ground.specs.Promises.{RefusalOf, SpanOf, ColumnsOf, Assesses, Judges, FinishRows, RowsRefusal, WorstFinishes, Margins, Executes, Slots}
 use Rattle.ground.specs.Promises.{Picks, Parts, PartRefusal, MakesTables, InRange, Outruns, IsEnabled, Misses, Worse, MarginOf}
 

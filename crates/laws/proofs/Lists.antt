@@ -10,7 +10,7 @@ use mathlib.Core.Logic.{◌⊎◌, inl, inr, ⊎_elim}
 use native.Mathlib.Omega.{arith}
 use lib.Dec.{eqb, leb, ltb}
 use borrow.Author.Tests.{eq-eqb, not-true, eqb-true, eqb-false, ltb-true, ltb-false}
-use Rattle.model.specs.Lists.{at, only, first, any, mem, least}
+use Rattle.model.specs.Lists.{only, first, any, mem, least}
 use Rattle.laws.proofs.Bools.{tests, split, clash, and_l, and_r, or_l, or_r, or_cases, or_no_l, or_no_r}
 
 -- any, mem ---------------------------------------------------------------------------------------------------------------------------

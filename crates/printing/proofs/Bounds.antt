@@ -21,7 +21,7 @@ use Rattle.model.specs.declared.Scenario.TheVariants.{Lo as ScenarioLo, Hi as Sc
 use Rattle.model.specs.declared.Miss.{Miss}
 use Rattle.model.specs.declared.Verdict.TheVariants.{Unfit}
 use Rattle.model.specs.Lists.{at, numbers, first, mem, total, largest}
-use Rattle.model.specs.Sets.{Policy, View, members, critical, span, job}
+use Rattle.model.specs.Sets.{Policy, View, members, critical, span}
 use Rattle.model.specs.Runs.{done_at, missed, mark, outcome, outcome_in, finish_of, dropped_by, switch_of}
 use Rattle.model.specs.Scenarios.{places, zeros, hi_jobs, scenarios, lo_times, turn, hi_time, times_of, finish_in, late_in, search, row, hi_row, rows, worst}
 use Rattle.model.specs.Refusals.{good, is_good, applies, placed, first_of, lowest, fault_from, fault, check_count, check_time, check_budget, check_span, check_lo_order, check_hi_order, checks, refusal}

@@ -8,14 +8,14 @@
 --   margin-range     == it lies between -4,095 and 65,534
 --   fit_margins      == a set is fit exactly if no margin is negative
 -- Assumes nothing.
-use Prim.Native.Nat.{ℕ, zero, suc, ◌+◌, ◌-◌, ◌≤◌, max}
+use Prim.Native.Nat.{ℕ, ◌+◌, ◌-◌, ◌≤◌, max}
 use mathlib.Core.Path.{◌≡◌, refl, sym, ◌∙◌, ap, subst}
-use mathlib.Core.Bool.{true, false, cond, not, ◌&&◌, ◌||◌}
+use mathlib.Core.Bool.{true, false, not, ◌&&◌, ◌||◌}
 use mathlib.Core.List.{List, [], ◌∷◌, map}
 use mathlib.Core.Logic.{◌⊎◌, inl, inr, ⊎_elim, ◌↔◌}
 use native.Mathlib.Omega.{arith}
 use lib.Dec.{leb, ltb}
-use lib.IntN.{pos, negsuc, ◌-ℤ◌}
+use lib.IntN.{pos, ◌-ℤ◌}
 use lib.ListN.{get_or-replicate}
 use borrow.Author.Tests.{ltb-true, lt-ltb, le-ltb, eqb-true, not-false}
 use Rattle.model.specs.declared.Scenario.{Scenario}

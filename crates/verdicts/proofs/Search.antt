@@ -22,7 +22,7 @@ use Rattle.model.specs.declared.Miss.{Miss}
 use Rattle.model.specs.declared.Scenario.{Scenario}
 use Rattle.model.specs.declared.Verdict.{Verdict}
 use Rattle.model.specs.declared.Verdict.TheVariants.{Fit, Unfit}
-use Rattle.model.specs.Lists.{at, from, numbers, only}
+use Rattle.model.specs.Lists.{from, numbers, only}
 use Rattle.model.specs.Sets.{View, members, critical}
 use Rattle.model.specs.Runs.{mark, required_after, outcome_in, switch_in, required, late, missed}
 use Rattle.model.specs.Scenarios.{places, hi_jobs, scenarios, times_of, finish_in, late_in, search, verdict}

@@ -1,4 +1,3 @@
-use Prim.Native.Nat.{◌-◌}
 use native.Mathlib.Omega.{arith}
 use Rattle.model.specs.Sets.{blank, job}
 use Rattle.columns.proofs.Jobs.{filled_zero, filled_more, filled_all}

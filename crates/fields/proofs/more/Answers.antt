@@ -1,4 +1,3 @@
-use Prim.Native.Nat.{◌-◌}
 use mathlib.Core.Path.{sym, ◌∙◌}
 use native.Mathlib.Omega.{arith}
 use Rattle.fields.proofs.Digits.{more-start, more-ends, more-done, more_stops, more-next, grows-digit}
@@ -27,9 +26,9 @@ overflow_add-value c = omega (arith, grows-digit _ _ _ (sym c.grows.ensures ∙ 
 
 pub loop-i-preserved : goal.loop-i-preserved
 loop-i-preserved c = (
-      omega (arith, grows-digit _ _ _ (sym c.grows.ensures ∙ c.if-not-grows.false)),
-      more-next _ _ _ _ _ _ _ c.loop-i.invariant.1 c.loop-i-test.true c.if-b-behind.false (sym c.grows.ensures ∙ c.if-not-grows.false),
-    )
+  omega (arith, grows-digit _ _ _ (sym c.grows.ensures ∙ c.if-not-grows.false)),
+  more-next _ _ _ _ _ _ _ c.loop-i.invariant.1 c.loop-i-test.true c.if-b-behind.false (sym c.grows.ensures ∙ c.if-not-grows.false),
+)
 
 pub returns : goal.returns
 returns c = more-ends _ _ _ _ _ _ _ c.loop-i.invariant.1 c.loop-i-test.false

@@ -1,7 +1,7 @@
 -- `outruns` meets its contract, test by test.
 use mathlib.Core.Path.{refl, sym}
 use native.Mathlib.Omega.{arith}
-use borrow.Author.Tests.{eq-eqb, ne_eqb, not-true, not-false}
+use borrow.Author.Tests.{eq-eqb, ne_eqb}
 use Rattle.measures.proofs.outruns.Goals as goal
 
 pub returns-then-not-critical : goal.returns-then-not-critical

@@ -2,7 +2,6 @@
 use Rattle.std.proofs.Common.{rules}
 use mathlib.Core.Path.{◌≡◌}
 use lib.ListN.{length}
-use Rattle.columns.specs.Columns.{Prepared}
 use Rattle.columns.proofs.Views.{prepared}
 use Rattle.runs.proofs.SlotAnswers.{slots_pass, fillable, kept-slots, made_slots}
 use Rattle.runs.proofs.slots.Goals as goal
@@ -31,5 +30,5 @@ returns c =
     record {
       answer = r;
       written =
-        made_slots _ _ (prepared _ _ pass.0 lo_full hi_full c.columns_of.ensures) _ _ _ _ r c.if-refused-ne-GOOD.false c.fill.ensures;
+          made_slots _ _ (prepared _ _ pass.0 lo_full hi_full c.columns_of.ensures) _ _ _ _ r c.if-refused-ne-GOOD.false c.fill.ensures;
     }

@@ -17,8 +17,11 @@ pub returns-then-n-span : goal.returns-then-n-span
 returns-then-n-span c = slots-short _ _ _ _ c.span_of-span.ensures (good_of _ _ c.refusal_of-refusal.ensures c.if-refusal-ne-GOOD.false) c.if-n-span.true
 
 pub out_of_range-outside-requires : goal.out_of_range-outside-requires
-out_of_range-outside-requires c = ((let h : Prepared c.args.s c.columns_of.result = let l = (let h : (length c.args.s.lo.entries ≡ 64) × (length c.args.s.hi.entries ≡ 64) = (search rules, search rules) in h) in
-    prepared _ _ (good_of _ _ c.refusal_of-refusal.ensures c.if-refusal-ne-GOOD.false) l.0 l.1 c.columns_of.ensures in h).testable, search rules)
+out_of_range-outside-requires c = (
+  (let h : Prepared c.args.s c.columns_of.result = let l = (let h : (length c.args.s.lo.entries ≡ 64) × (length c.args.s.hi.entries ≡ 64) = (search rules, search rules) in h) in
+      prepared _ _ (good_of _ _ c.refusal_of-refusal.ensures c.if-refusal-ne-GOOD.false) l.0 l.1 c.columns_of.ensures in h).testable,
+  search rules,
+)
 
 pub returns-then-outside-ne0 : goal.returns-then-outside-ne0
 returns-then-outside-ne0 c = slots-outside _ _ _ _ c.span_of-span.ensures (good_of _ _ c.refusal_of-refusal.ensures c.if-refusal-ne-GOOD.false) _ c.if-n-span.false (let h : let a = c.args in

@@ -3,7 +3,6 @@
 use Rattle.std.proofs.Common.{rules}
 use mathlib.Core.Path.{◌≡◌}
 use lib.ListN.{length}
-use Rattle.columns.specs.Columns.{Prepared}
 use Rattle.columns.proofs.Views.{prepared}
 use Rattle.runs.proofs.SlotAnswers.{fillable}
 use Rattle.tables.proofs.Turns.{made_front}

@@ -1,4 +1,4 @@
-use Prim.Native.Nat.{◌+◌, ◌-◌}
+use Prim.Native.Nat.{◌+◌}
 use mathlib.Core.Path.{◌≡◌, sym, ◌∙◌, ap}
 use native.Mathlib.Omega.{arith}
 use lib.ListN.{length}
@@ -22,8 +22,8 @@ loop-i-preserved c =
     let h = c.loop-i-test.true in
     let job_hi : hi (c.loop-i.i + 1) ≡ c.is_hi.result = ap (λ j. is_hi j.level) (job_at_lem c.args.s c.loop-i.i (omega arith)) ∙ sym c.is_hi.ensures in
     elim c.if-is_hi.branch [
-      then-is_hi w ↦ omega (arith, only_pass hi c.loop-i.i c.places-n.result h (job_hi ∙ w.if-is_hi.true))
-    | else-is_hi w ↦ omega (arith, only_fail hi c.loop-i.i c.places-n.result h (job_hi ∙ w.if-is_hi.false))
+      | then-is_hi w ↦ omega (arith, only_pass hi c.loop-i.i c.places-n.result h (job_hi ∙ w.if-is_hi.true))
+      | else-is_hi w ↦ omega (arith, only_fail hi c.loop-i.i c.places-n.result h (job_hi ∙ w.if-is_hi.false))
     ]
 
 pub returns : goal.returns

@@ -1,4 +1,4 @@
-use Prim.Native.Nat.{◌+◌, ◌-◌}
+use Prim.Native.Nat.{◌+◌}
 use mathlib.Core.Path.{◌≡◌, sym, ◌∙◌, ap}
 use native.Mathlib.Omega.{arith}
 use Rattle.model.specs.Lists.{first}
@@ -23,13 +23,13 @@ returns-then-breaks c = let a = c.args in
 pub loop-i-preserved : goal.loop-i-preserved
 unfolding breaks_at blank job
 loop-i-preserved c = let a = c.args in (
-      omega arith,
-      c.loop-i.invariant.1
-          ∙ first_fail (breaks_at a.number a.s) c.loop-i.i c.places-n.result (omega arith)
-          ((let h : let a = c.args in
-    breaks_at a.number a.s (c.loop-i.i + 1) ≡ c.breaks.result = let a = c.args in
-    ap (breaks a.number) (job_at_lem a.s c.loop-i.i (omega arith)) ∙ sym c.breaks.ensures in h) ∙ c.if-breaks.false),
-    )
+  omega arith,
+  c.loop-i.invariant.1
+      ∙ first_fail (breaks_at a.number a.s) c.loop-i.i c.places-n.result (omega arith)
+      ((let h : let a = c.args in
+      breaks_at a.number a.s (c.loop-i.i + 1) ≡ c.breaks.result = let a = c.args in
+      ap (breaks a.number) (job_at_lem a.s c.loop-i.i (omega arith)) ∙ sym c.breaks.ensures in h) ∙ c.if-breaks.false),
+)
 
 pub returns : goal.returns
 unfolding first

@@ -1,4 +1,3 @@
-use Prim.Native.Nat.{◌-◌}
 use mathlib.Core.Path.{ap}
 use native.Mathlib.Omega.{arith}
 use lib.ListN.{replicate}
@@ -20,10 +19,10 @@ returns-in-Stuck c = jobs-stuck _ _ _ _ _ _ _ c.loop-i.invariant.1 c.loop-i-test
 
 pub loop-i-preserved : goal.loop-i-preserved
 loop-i-preserved c = (
-      omega arith,
-      jobs-next _ _ _ _ _ _ _ c.loop-i.invariant.1 c.loop-i-test.true _ c.line-row.ensures c.requires.1 _ _ _
-          c.in-At.is c.job_of-job.ensures c.level_number-hi.ensures,
-    )
+  omega arith,
+  jobs-next _ _ _ _ _ _ _ c.loop-i.invariant.1 c.loop-i-test.true _ c.line-row.ensures c.requires.1 _ _ _
+      c.in-At.is c.job_of-job.ensures c.level_number-hi.ensures,
+)
 
 pub returns : goal.returns
 returns c = jobs-end _ _ _ _ _ _ _ c.loop-i.invariant.1 c.loop-i.invariant.0 c.loop-i-test.false

@@ -1,4 +1,3 @@
-use Prim.Native.Nat.{◌-◌}
 use mathlib.Core.Path.{refl, ◌∙◌, ap}
 use native.Mathlib.Omega.{arith}
 use Rattle.model.specs.Texts.{decimal}
@@ -15,10 +14,10 @@ loop-i-smaller c = omega arith
 
 pub loop-i-preserved : goal.loop-i-preserved
 loop-i-preserved c = (
-      omega arith,
-      omega arith,
-      times-turn _ _ _ _ _ _ c.loop-i-test.true c.loop-i.invariant.2 (number _ _ _ _ c.wide-in-loop-i.ensures c.with_field-next.ensures),
-    )
+  omega arith,
+  omega arith,
+  times-turn _ _ _ _ _ _ c.loop-i-test.true c.loop-i.invariant.2 (number _ _ _ _ c.wide-in-loop-i.ensures c.with_field-next.ensures),
+)
 
 pub returns : goal.returns
 returns c = times-end _ _ _ _ _ _ c.loop-i-test.false c.loop-i.invariant.2 c.with_byte.ensures

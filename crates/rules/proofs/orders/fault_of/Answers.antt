@@ -3,7 +3,6 @@ use mathlib.Core.Bool.{Bool, not, ◌||◌}
 use mathlib.Core.List.{List}
 use mathlib.Core.Path.{◌≡◌, refl, sym, ◌∙◌, ap}
 use native.Mathlib.Omega.{arith}
-use lib.ListN.{get_or}
 use Rattle.model.specs.Lists.{mem, cut}
 use Rattle.model.specs.Refusals.{fault_from, fault}
 use Rattle.laws.proofs.Members.{cut-end}

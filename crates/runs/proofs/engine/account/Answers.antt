@@ -1,5 +1,4 @@
 -- `account` meets its contract: each way out is one of the laws of Account.
-use Prim.Native.Nat.{◌≤◌}
 use native.Mathlib.Omega.{arith}
 use Rattle.runs.proofs.Account.{had-room, account_idle, account-ends, account_goes_on}
 use Rattle.runs.proofs.engine.account.Goals as goal

@@ -1,4 +1,3 @@
-use Prim.Native.Nat.{◌-◌}
 use native.Mathlib.Omega.{arith}
 use Rattle.runs.proofs.Overruns.{rest-start, rest-found, rest_more, rest-none}
 use Rattle.runs.proofs.engine.overrun.Goals as goal

@@ -1,4 +1,3 @@
-use Prim.Native.Nat.{◌-◌}
 use native.Mathlib.Omega.{arith}
 use Rattle.runs.proofs.Starts.{start_zero, start-more, started}
 use Rattle.runs.proofs.engine.start.Goals as goal

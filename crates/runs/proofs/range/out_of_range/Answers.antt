@@ -1,4 +1,3 @@
-use Prim.Native.Nat.{◌-◌}
 use native.Mathlib.Omega.{arith}
 use Rattle.runs.proofs.RangeLaws.{inside_more, outside-here, outside-none}
 use Rattle.runs.proofs.range.out_of_range.Goals as goal

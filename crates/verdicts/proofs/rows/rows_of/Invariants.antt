@@ -3,8 +3,6 @@ use Prim.Native.Nat.{◌+◌, ◌-◌, ◌≤◌}
 use mathlib.Core.Path.{◌≡◌}
 use Rattle.columns.specs.Columns.{view_of}
 use Rattle.verdicts.proofs.RowLaws.{rows_to}
-use Rattle.verdicts.proofs.rows.rows_of.Reads as reads
-use Rattle.verdicts.proofs.rows.rows_of.Lts as lts
 use Rattle.verdicts.proofs.rows.rows_of.Given as goal
 
 abbrev pub invariant-loop-x : goal.invariant-loop-x

@@ -1,7 +1,5 @@
 use mathlib.Core.Path.{refl}
 use Rattle.model.specs.Scenarios.{zeros}
-use Rattle.verdicts.proofs.rows.zero_rows.Reads as reads
-use Rattle.verdicts.proofs.rows.zero_rows.Lts as lts
 use Rattle.verdicts.proofs.rows.zero_rows.Goals as goal
 
 -- src/rows.rt:18:1

@@ -1,4 +1,3 @@
-use Prim.Native.Nat.{◌-◌}
 use mathlib.Core.Path.{refl, sym, ◌∙◌}
 use native.Mathlib.Omega.{arith}
 use Rattle.verdicts.proofs.Found.{Found, turn_pass, turn_skip, found_fit, found-miss, unfit_is, fit_is, job_fits}
