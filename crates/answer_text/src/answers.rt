@@ -2,18 +2,19 @@
 use crate::values::numbers;
 use crate::words::{bytes, entry, number};
 use model::{Judged, Judgement, Miss, Pick, Ran, Refusal, Scenario, Switch, Verdict};
+use std::io;
+use std::io::Write;
 
 // A refusal: its number and its place, or that there is none.
-pub fn refusal(fd: i32, r: Refusal) {
+pub fn refusal<W: Write>(out: &mut W, r: Refusal) -> io::Result<()> {
     if r.number == 0 {
         if r.place == 0 {
-            bytes(fd, b" good");
-            return;
+            return bytes(out, b" good");
         }
     }
-    bytes(fd, b" refused");
-    number(fd, r.number as u64);
-    number(fd, r.place);
+    bytes(out, b" refused")?;
+    number(out, r.number as u64)?;
+    number(out, r.place)
 }
 
 // The number of a scenario: 0 for LO.
@@ -25,64 +26,64 @@ fn scenario_number(x: Scenario) -> u16 {
 }
 
 // An unfit verdict.
-fn miss(fd: i32, m: Miss) {
+fn miss<W: Write>(out: &mut W, m: Miss) -> io::Result<()> {
     let x = m.scenario;
-    bytes(fd, b" UNFIT");
-    entry(fd, scenario_number(x));
-    entry(fd, m.job);
-    entry(fd, m.finish);
+    bytes(out, b" UNFIT")?;
+    entry(out, scenario_number(x))?;
+    entry(out, m.job)?;
+    entry(out, m.finish)
 }
 
 // A verdict.
-fn verdict(fd: i32, v: Verdict) {
+fn verdict<W: Write>(out: &mut W, v: Verdict) -> io::Result<()> {
     match v {
-        Verdict::Fit => bytes(fd, b" FIT"),
-        Verdict::Unfit(m) => miss(fd, m),
+        Verdict::Fit => bytes(out, b" FIT"),
+        Verdict::Unfit(m) => miss(out, m),
     }
 }
 
 // A judgement.
-fn judgement(fd: i32, x: Judgement) {
+fn judgement<W: Write>(out: &mut W, x: Judgement) -> io::Result<()> {
     match x {
-        Judgement::Refused(r) => refusal(fd, r),
-        Judgement::Found(v) => verdict(fd, v),
+        Judgement::Refused(r) => refusal(out, r),
+        Judgement::Found(v) => verdict(out, v),
     }
 }
 
 // The judgement of a set with n jobs, and the running times beside it.
-pub fn judged(fd: i32, x: Judged, n: usize) {
+pub fn judged<W: Write>(out: &mut W, x: Judged, n: usize) -> io::Result<()> {
     let found = x.judgement;
     let times = x.times;
-    judgement(fd, found);
-    bytes(fd, b" times");
-    numbers(fd, times, n);
+    judgement(out, found)?;
+    bytes(out, b" times")?;
+    numbers(out, times, n)
 }
 
 // The instant of a switch, or never.
-fn switch(fd: i32, x: Switch) {
-    bytes(fd, b" switch");
+fn switch<W: Write>(out: &mut W, x: Switch) -> io::Result<()> {
+    bytes(out, b" switch")?;
     match x {
-        Switch::Never => bytes(fd, b" never"),
-        Switch::At(t) => entry(fd, t),
+        Switch::Never => bytes(out, b" never"),
+        Switch::At(t) => entry(out, t),
     }
 }
 
 // Of a run with n jobs the refusal, the finishes and the switch.
-pub fn ran(fd: i32, x: Ran, n: usize) {
+pub fn ran<W: Write>(out: &mut W, x: Ran, n: usize) -> io::Result<()> {
     let refused = x.refusal;
     let finishes = x.finishes;
     let instant = x.switch;
-    refusal(fd, refused);
-    bytes(fd, b" ends");
-    numbers(fd, finishes, n);
-    switch(fd, instant);
+    refusal(out, refused)?;
+    bytes(out, b" ends")?;
+    numbers(out, finishes, n)?;
+    switch(out, instant)
 }
 
 // Who gets a slot.
-pub fn pick(fd: i32, x: Pick) {
-    bytes(fd, b" gets");
+pub fn pick<W: Write>(out: &mut W, x: Pick) -> io::Result<()> {
+    bytes(out, b" gets")?;
     match x {
-        Pick::Idle => bytes(fd, b" idle"),
-        Pick::Job(j) => entry(fd, j),
+        Pick::Idle => bytes(out, b" idle"),
+        Pick::Job(j) => entry(out, j),
     }
 }

@@ -1,4 +1,4 @@
-// An answer of the library as text, written to a file that is open: words and numbers, a space before each. Every function is total.
+// An answer of the library as text, given to a writer: words and numbers, a space before each. Every function is total, and stops with the error of the first write that fails.
 #![tactic(auto)]
 
 mod answers;

@@ -2,6 +2,8 @@
 ghost use Rattle.std.specs.Prelude.{◌<◌, ◌≤◌, length};
 
 use crate::words::{bytes, entry, list, number};
+use std::io;
+use std::io::Write;
 
 // The index after the stretch of equal entries that begins at i.
 fn stretch_end(table: &[u16], i: usize) -> usize
@@ -19,31 +21,30 @@ fn stretch_end(table: &[u16], i: usize) -> usize
 }
 
 // A stretch of equal entries: the entry, and how many there are.
-fn stretch(fd: i32, x: u16, n: usize) {
-    entry(fd, x);
-    bytes(fd, b" x");
-    number(fd, n as u64);
+fn stretch<W: Write>(out: &mut W, x: u16, n: usize) -> io::Result<()> {
+    entry(out, x)?;
+    bytes(out, b" x")?;
+    number(out, n as u64)
 }
 
 // A long table, by its stretches of equal entries.
-fn stretches(fd: i32, table: &[u16]) {
+fn stretches<W: Write>(out: &mut W, table: &[u16]) -> io::Result<()> {
     let mut i: usize = 0;
     while i < table.len() {
         let end = stretch_end(table, i);
-        stretch(fd, table[i], end - i);
+        stretch(out, table[i], end - i)?;
         i = end;
     }
+    Ok(())
 }
 
 // The entries of a table, of more than 64 by stretches.
-pub fn table(fd: i32, entries: &[u16]) {
+pub fn table<W: Write>(out: &mut W, entries: &[u16]) -> io::Result<()> {
     if entries.len() == 0 {
-        bytes(fd, b" nothing");
-        return;
+        return bytes(out, b" nothing");
     }
     if entries.len() > 64 {
-        stretches(fd, entries);
-        return;
+        return stretches(out, entries);
     }
-    list(fd, entries);
+    list(out, entries)
 }

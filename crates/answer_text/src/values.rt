@@ -2,6 +2,8 @@
 ghost use Rattle.std.specs.Prelude.{◌≤◌};
 
 use crate::words::{bytes, line, list, number};
+use std::io;
+use std::io::Write;
 
 // How many of the numbers are shown: those of jobs 1 to n, and all where one beyond them is not 0, which no answer should have.
 fn shown(values: [u16; 64], n: usize) -> usize
@@ -18,9 +20,9 @@ fn shown(values: [u16; 64], n: usize) -> usize
 }
 
 // The numbers of jobs 1 to n.
-pub fn numbers(fd: i32, values: [u16; 64], n: usize) {
+pub fn numbers<W: Write>(out: &mut W, values: [u16; 64], n: usize) -> io::Result<()> {
     let k = shown(values, n);
-    list(fd, &values[0..k]);
+    list(out, &values[0..k])
 }
 
 // A number that is not negative.
@@ -32,13 +34,13 @@ fn magnitude(x: i32) -> u64 {
 }
 
 // A space and a number with its sign.
-fn signed(fd: i32, x: i32) {
+fn signed<W: Write>(out: &mut W, x: i32) -> io::Result<()> {
     if x < 0 {
-        bytes(fd, b" -");
-        io::print_decimal(fd, std::num::wrapping_add_u64(magnitude(!x), 1));
-        return;
+        bytes(out, b" -")?;
+        let below = magnitude(!x).wrapping_add(1);
+        return write!(out, "{below}");
     }
-    number(fd, magnitude(x));
+    number(out, magnitude(x))
 }
 
 // Whether the margin at a place is shown: of jobs 1 to n each, and beyond them one that is not 0, which no answer should have.
@@ -50,33 +52,45 @@ fn is_shown(i: usize, n: usize, x: i32) -> bool {
 }
 
 // The margins of jobs 1 to n.
-pub fn margins(fd: i32, values: [i32; 64], n: usize) {
+pub fn margins<W: Write>(out: &mut W, values: [i32; 64], n: usize) -> io::Result<()> {
     let mut i: usize = 0;
     while i < 64 {
         let x = values[i];
         if is_shown(i, n, x) {
-            signed(fd, x);
+            signed(out, x)?;
         }
         i += 1;
     }
+    Ok(())
 }
 
 // One finish row on a line of its own; of a row that belongs to no job, only what is not 0.
-fn row(fd: i32, begin: &[u8], x: usize, finishes: [u16; 64], n: usize) {
+fn row<W: Write>(
+    out: &mut W,
+    begin: &[u8],
+    x: usize,
+    finishes: [u16; 64],
+    n: usize,
+) -> io::Result<()> {
     if x > n {
-        numbers(fd, finishes, 0);
-        return;
+        return numbers(out, finishes, 0);
     }
-    line(fd, begin, b" row");
-    number(fd, x as u64);
-    numbers(fd, finishes, n);
+    line(out, begin, b" row")?;
+    number(out, x as u64)?;
+    numbers(out, finishes, n)
 }
 
 // The finish rows 0 to n, a line each, which begins with the bytes of `begin`.
-pub fn rows(fd: i32, begin: &[u8], finishes: [[u16; 64]; 65], n: usize) {
+pub fn rows<W: Write>(
+    out: &mut W,
+    begin: &[u8],
+    finishes: [[u16; 64]; 65],
+    n: usize,
+) -> io::Result<()> {
     let mut x: usize = 0;
     while x < 65 {
-        row(fd, begin, x, finishes[x], n);
+        row(out, begin, x, finishes[x], n)?;
         x += 1;
     }
+    Ok(())
 }
