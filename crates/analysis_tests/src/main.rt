@@ -4,13 +4,15 @@
 
 use answer_text::bytes;
 use case_text::{built, first, line_at, next_line, no_set, rest};
-use libc::STDOUT_FILENO;
+use input_bytes::read_full;
 use model::Set;
+use std::io;
+use std::io::Write;
 
-fn main() {
-    let mut room = io::large_buffer();
-    let n = io::read_full(0, &mut room);
-    play(&room[..n]);
+fn main(rt: HostRuntime) -> io::Result<()> {
+    let mut room = [0u8; 65536];
+    let n = read_full(&mut rt.stdin(), &mut room)?;
+    play(&mut io::writer(&rt), &room[..n])
 }
 
 // Where the line of the last set stands, after a line at an index.
@@ -18,19 +20,19 @@ fn set_at(line: &[u8], at: usize, before: usize) -> usize {
     if first(line) == b's' { at } else { before }
 }
 
-// Prints the answer to a line that asks: the set's name, the question, and what the library says.
-fn answer(name: &[u8], line: &[u8], s: Set) {
+// Writes the answer to a line that asks: the set's name, the question, and what the library says.
+fn answer<W: Write>(out: &mut W, name: &[u8], line: &[u8], s: Set) -> io::Result<()> {
     if first(line) != b'?' {
-        return;
+        return Ok(());
     }
-    bytes(STDOUT_FILENO, name);
-    bytes(STDOUT_FILENO, rest(line, 1));
-    questions::answer(STDOUT_FILENO, name, rest(line, 2), s);
-    bytes(STDOUT_FILENO, b"\n");
+    bytes(out, name)?;
+    bytes(out, rest(line, 1))?;
+    questions::answer(out, name, rest(line, 2), s)?;
+    bytes(out, b"\n")
 }
 
 // Goes through the lines. What is asked is answered under the name of the set that was built last.
-fn play(text: &[u8]) {
+fn play<W: Write>(out: &mut W, text: &[u8]) -> io::Result<()> {
     let mut s = no_set();
     let mut named: usize = 0;
     let mut at: usize = 0;
@@ -38,7 +40,8 @@ fn play(text: &[u8]) {
         let line = line_at(text, at);
         named = set_at(line, at, named);
         s = built(line, s);
-        answer(rest(line_at(text, named), 4), line, s);
+        answer(out, rest(line_at(text, named), 4), line, s)?;
         at = next_line(text, at);
     }
+    Ok(())
 }

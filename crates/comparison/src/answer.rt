@@ -1,8 +1,10 @@
-// The library's answer to a question, held against the one wanted. It goes by way of the file `answer`, since what writes an answer writes to a file.
+// The library's answer to a question, held against the one wanted. What is written of it stands in memory, and each answer takes the place of the one before.
 use crate::tally::{DIFFERENCES, kind_of};
 use answer_text::bytes;
 use case_text::{between, first, rest, text_in};
 use model::Set;
+use std::io;
+use std::io::Write;
 
 // Whether a question asks for what the program prints for a text.
 fn is_print(question: &[u8]) -> bool {
@@ -29,65 +31,60 @@ fn barred(bytes: [u8; 1024]) -> [u8; 1024] {
 }
 
 // Writes what is printed for the text of a line.
-fn write_printed(fd: i32, line: &[u8]) {
+fn write_printed<W: Write>(out: &mut W, line: &[u8]) -> io::Result<()> {
     let t = text_in(line);
     let text = t.bytes;
     let p = printing::answer(between(&text, 0, t.length));
     let have = p.bytes;
     let shown = barred(have);
-    bytes(fd, b" ");
-    bytes(fd, between(&shown, 0, p.length));
+    bytes(out, b" ")?;
+    bytes(out, between(&shown, 0, p.length))
 }
 
 // Writes the library's answer to a question on the text of a line, or on a set.
-fn write_words(fd: i32, line: &[u8], question: &[u8], s: Set) {
+fn write_words<W: Write>(out: &mut W, line: &[u8], question: &[u8], s: Set) -> io::Result<()> {
     if is_print(question) {
-        write_printed(fd, line);
-        return;
+        return write_printed(out, line);
     }
-    questions::answer(fd, b"=", question, s);
+    questions::answer(out, b"=", question, s)
 }
 
-// Writes the library's answer as it should stand behind the question. The file is made anew, so that no earlier answer can be read for it.
-fn write_answer(line: &[u8], question: &[u8], s: Set) {
-    os::unlink(b"answer");
-    let fd = os::create(b"answer");
-    bytes(fd, b"=");
-    write_words(fd, line, question, s);
-    bytes(fd, b"\n");
-    libc::close(fd);
+// Writes the library's answer as it should stand behind the question. What was written before is dropped, so that no earlier answer can be read for it.
+fn write_answer(answer: &mut Vec<u8>, line: &[u8], question: &[u8], s: Set) -> io::Result<()> {
+    answer.clear();
+    bytes(answer, b"=")?;
+    write_words(answer, line, question, s)?;
+    bytes(answer, b"\n")
 }
 
 // Whether the answer written is the one wanted.
-fn is_wanted(want: &[u8]) -> bool {
-    let fd = os::open_read(b"answer");
-    let mut room = io::large_buffer();
-    let n = io::read_full(fd, &mut room);
-    libc::close(fd);
-    check::same(&room[..n], want)
+fn is_wanted(answer: &[u8], want: &[u8]) -> bool {
+    check::same(answer, want)
 }
 
 // Prints the answer written.
-fn show_answer() {
-    let fd = os::open_read(b"answer");
-    let mut room = io::large_buffer();
-    let n = io::read_full(fd, &mut room);
-    libc::close(fd);
-    bytes(1, &room[..n]);
+fn show_answer<W: Write>(out: &mut W, answer: &[u8]) -> io::Result<()> {
+    bytes(out, answer)
 }
 
 // Prints a case whose last question is answered otherwise, and the answer.
-pub fn show_difference(case: &[u8]) {
-    bytes(1, case);
-    bytes(1, b"The library answers:\n");
-    show_answer();
+pub fn show_difference<W: Write>(out: &mut W, case: &[u8], answer: &[u8]) -> io::Result<()> {
+    bytes(out, case)?;
+    bytes(out, b"The library answers:\n")?;
+    show_answer(out, answer)
 }
 
-// The kind under which a question is counted, in the case that begins with `line`.
-pub fn compared(line: &[u8], question: &[u8], want: &[u8], s: Set) -> usize {
-    write_answer(line, question, s);
-    if is_wanted(want) {
-        return kind_of(first(question), want);
+// The kind under which a question is counted, in the case that begins with `line`. The answer is left in `answer`.
+pub fn compared(
+    answer: &mut Vec<u8>,
+    line: &[u8],
+    question: &[u8],
+    want: &[u8],
+    s: Set,
+) -> io::Result<usize> {
+    write_answer(answer, line, question, s)?;
+    if is_wanted(answer, want) {
+        return Ok(kind_of(first(question), want));
     }
-    DIFFERENCES
+    Ok(DIFFERENCES)
 }

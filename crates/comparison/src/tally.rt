@@ -1,6 +1,8 @@
 // How many answers there are of each kind: by the verdict, else by the number of the refusal, else by the question.
 use answer_text::{bytes, number};
 use case_text::{first, line_at, next_line, nth, numbers_in, rest};
+use std::io;
+use std::io::Write;
 
 // The counts of the kinds in the order in which they are printed, and last that of the differences.
 #[derive(Clone, Copy)]
@@ -29,7 +31,7 @@ pub fn with_one(t: Tally, kind: usize) -> Tally {
         return t;
     }
     let mut counts = t.counts;
-    counts[kind] = std::num::wrapping_add_u64(counts[kind], 1);
+    counts[kind] = counts[kind].wrapping_add(1);
     Tally { counts }
 }
 
@@ -72,7 +74,7 @@ pub fn kind_of(letter: u8, answer: &[u8]) -> usize {
 }
 
 // Prints each count after its name.
-pub fn show_tally(t: Tally) {
+pub fn show_tally<W: Write>(out: &mut W, t: Tally) -> io::Result<()> {
     let names = b"fit
 unfit in LO
 unfit in HI
@@ -97,18 +99,19 @@ picks
 checks
 differences
 ";
-    show_counts(t, names);
+    show_counts(out, t, names)
 }
 
 // Prints each count after its name, a line of `names`.
-fn show_counts(t: Tally, names: &[u8]) {
+fn show_counts<W: Write>(out: &mut W, t: Tally, names: &[u8]) -> io::Result<()> {
     let mut at: usize = 0;
     let mut i: usize = 0;
     while i < 23 {
-        bytes(1, line_at(names, at));
-        number(1, t.counts[i]);
-        bytes(1, b"\n");
+        bytes(out, line_at(names, at))?;
+        number(out, t.counts[i])?;
+        bytes(out, b"\n")?;
         at = next_line(names, at);
         i += 1;
     }
+    Ok(())
 }

@@ -1,11 +1,14 @@
 // The program `judge`: reads a plan text from standard input, and prints its answer.
 #![tactic(auto)]
 
-fn main() {
-    let mut room = io::buffer();
-    let n = io::read_full(0, &mut room);
+use input_bytes::read_full;
+use std::io;
+
+fn main(rt: HostRuntime) -> io::Result<()> {
+    let mut room = [0u8; 4096];
+    let n = read_full(&mut rt.stdin(), &mut room)?;
     let p = printing::answer(&room[..n]);
     let bytes = p.bytes;
     let length = p.length;
-    io::write_all(1, &bytes[..length]);
+    rt.write_all(&bytes[..length])
 }

@@ -2,6 +2,8 @@
 use answer_text::pick;
 use case_text::{Numbers, flags, nth, short};
 use model::Set;
+use std::io;
+use std::io::Write;
 
 // The number of jobs that an answer has places for.
 pub fn jobs_in(s: Set) -> usize {
@@ -40,7 +42,7 @@ fn later_flags(done: &[bool], n: usize) -> &[bool] {
 }
 
 // Who gets a slot.
-pub fn picked(fd: i32, s: Set, w: Numbers) {
+pub fn picked<W: Write>(out: &mut W, s: Set, w: Numbers) -> io::Result<()> {
     let order = s.lo;
     let list = order.entries;
     let arrivals = arrivals_of(s);
@@ -51,5 +53,5 @@ pub fn picked(fd: i32, s: Set, w: Numbers) {
         later_flags(&done, w.count),
         short(nth(w, 0)),
     );
-    pick(fd, p);
+    pick(out, p)
 }

@@ -19,48 +19,56 @@ use case_text::{Numbers, first, numbers_in, shorts};
 use jobs::{jobs_in, picked};
 use model::Set;
 use slots::{part, tables};
+use std::io;
+use std::io::Write;
 
 // The finish rows.
-fn finishes(fd: i32, begin: &[u8], s: Set) {
-    refusal(fd, analysis::rows_refusal(s));
-    rows(fd, begin, analysis::finish_rows(s), jobs_in(s));
+fn finishes<W: Write>(out: &mut W, begin: &[u8], s: Set) -> io::Result<()> {
+    refusal(out, analysis::rows_refusal(s))?;
+    rows(out, begin, analysis::finish_rows(s), jobs_in(s))
 }
 
 // The run with the times of a question.
-fn run(fd: i32, s: Set, w: Numbers) {
-    ran(fd, analysis::execute(s, shorts(w)), jobs_in(s));
+fn run<W: Write>(out: &mut W, s: Set, w: Numbers) -> io::Result<()> {
+    ran(out, analysis::execute(s, shorts(w)), jobs_in(s))
 }
 
 // The answer to a question that has numbers.
-fn answer_with(fd: i32, begin: &[u8], kind: u8, s: Set, w: Numbers) {
+fn answer_with<W: Write>(
+    out: &mut W,
+    begin: &[u8],
+    kind: u8,
+    s: Set,
+    w: Numbers,
+) -> io::Result<()> {
     match kind {
-        b'r' => run(fd, s, w),
-        b't' => tables(fd, begin, s, w),
-        b'p' => part(fd, s, w),
-        b'a' => picked(fd, s, w),
-        _ => {}
+        b'r' => run(out, s, w),
+        b't' => tables(out, begin, s, w),
+        b'p' => part(out, s, w),
+        b'a' => picked(out, s, w),
+        _ => Ok(()),
     }
 }
 
 // The answer that is one line of numbers.
-fn answer_in_numbers(fd: i32, kind: u8, s: Set) {
+fn answer_in_numbers<W: Write>(out: &mut W, kind: u8, s: Set) -> io::Result<()> {
     match kind {
-        b's' => number(fd, checks::span_of(s)),
-        b'w' => numbers(fd, analysis::worst_finishes(s), jobs_in(s)),
-        b'm' => margins(fd, analysis::margins(s), jobs_in(s)),
-        _ => {}
+        b's' => number(out, checks::span_of(s)),
+        b'w' => numbers(out, analysis::worst_finishes(s), jobs_in(s)),
+        b'm' => margins(out, analysis::margins(s), jobs_in(s)),
+        _ => Ok(()),
     }
 }
 
-// Writes the answer to a question to a file that is open, without the end of its last line. Each further line begins with the bytes of `begin`.
+// Gives a writer the answer to a question, without the end of its last line. Each further line begins with the bytes of `begin`.
 // A question of no such form has no answer.
-pub fn answer(fd: i32, begin: &[u8], question: &[u8], s: Set) {
+pub fn answer<W: Write>(out: &mut W, begin: &[u8], question: &[u8], s: Set) -> io::Result<()> {
     let kind = first(question);
     match kind {
-        b'c' => refusal(fd, checks::refusal_of(s)),
-        b'j' => judged(fd, analysis::judge(s), jobs_in(s)),
-        b'f' => finishes(fd, begin, s),
-        b's' | b'w' | b'm' => answer_in_numbers(fd, kind, s),
-        _ => answer_with(fd, begin, kind, s, numbers_in(question)),
+        b'c' => refusal(out, checks::refusal_of(s)),
+        b'j' => judged(out, analysis::judge(s), jobs_in(s)),
+        b'f' => finishes(out, begin, s),
+        b's' | b'w' | b'm' => answer_in_numbers(out, kind, s),
+        _ => answer_with(out, begin, kind, s, numbers_in(question)),
     }
 }

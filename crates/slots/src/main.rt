@@ -13,9 +13,11 @@ use answer_text::{bytes, list, number};
 use checks::span_of;
 use columns::columns_of;
 use input::{text_in, times_in};
-use libc::STDOUT_FILENO;
+use input_bytes::read_full;
 use model::{GOOD, Refusal, Set, Switch};
 use plan_text::read;
+use std::io;
+use std::io::Write;
 
 // Room for the times and the longest text that is read.
 fn room() -> [u8; 4224]
@@ -24,10 +26,10 @@ fn room() -> [u8; 4224]
     [0u8; 4224]
 }
 
-fn main() {
+fn main(rt: HostRuntime) -> io::Result<()> {
     let mut input = room();
-    let n = io::read_full(0, &mut input);
-    show(&input[..n]);
+    let n = read_full(&mut rt.stdin(), &mut input)?;
+    show(&mut io::writer(&rt), &input[..n])
 }
 
 // Whether no time is given.
@@ -66,61 +68,59 @@ fn front(values: &[u16], n: usize) -> &[u16] {
 }
 
 // A line: a word, and the first numbers of a list.
-fn line(word: &[u8], values: &[u16], n: usize) {
-    bytes(STDOUT_FILENO, word);
-    list(STDOUT_FILENO, front(values, n));
-    bytes(STDOUT_FILENO, b"\n");
+fn line<W: Write>(out: &mut W, word: &[u8], values: &[u16], n: usize) -> io::Result<()> {
+    bytes(out, word)?;
+    list(out, front(values, n))?;
+    bytes(out, b"\n")
 }
 
 // The line of the switch.
-fn switch_line(x: Switch) {
-    bytes(STDOUT_FILENO, b"switch");
+fn switch_line<W: Write>(out: &mut W, x: Switch) -> io::Result<()> {
+    bytes(out, b"switch")?;
     match x {
-        Switch::Never => bytes(STDOUT_FILENO, b" never"),
-        Switch::At(t) => number(STDOUT_FILENO, t as u64),
+        Switch::Never => bytes(out, b" never")?,
+        Switch::At(t) => number(out, t as u64)?,
     }
-    bytes(STDOUT_FILENO, b"\n");
+    bytes(out, b"\n")
 }
 
 // The line of a refusal.
-fn refused(r: Refusal) {
-    bytes(STDOUT_FILENO, b"REFUSED");
-    number(STDOUT_FILENO, r.number as u64);
-    number(STDOUT_FILENO, r.place);
-    bytes(STDOUT_FILENO, b"\n");
+fn refused<W: Write>(out: &mut W, r: Refusal) -> io::Result<()> {
+    bytes(out, b"REFUSED")?;
+    number(out, r.number as u64)?;
+    number(out, r.place)?;
+    bytes(out, b"\n")
 }
 
 // The lines of a run that is not refused, with its slots.
-fn show_lines(s: Set, times: [u16; 64], table: &[u16]) {
+fn show_lines<W: Write>(out: &mut W, s: Set, times: [u16; 64], table: &[u16]) -> io::Result<()> {
     let r = execute(s, times);
     let ends = r.finishes;
     let switch = r.switch;
-    line(b"times", &times, s.count);
-    line(b"ends", &ends, s.count);
-    switch_line(switch);
-    line(b"slots", table, span_of(s) as usize);
+    line(out, b"times", &times, s.count)?;
+    line(out, b"ends", &ends, s.count)?;
+    switch_line(out, switch)?;
+    line(out, b"slots", table, span_of(s) as usize)
 }
 
 // The answer for a set, with the times given.
-fn show_set(s: Set, given: [u16; 64]) {
+fn show_set<W: Write>(out: &mut W, s: Set, given: [u16; 64]) -> io::Result<()> {
     let times = times_of(s, given);
     let mut table = [0u16; 4096];
     let refusal = slots(s, times, &mut table);
     if refusal.number != GOOD {
-        refused(refusal);
-        return;
+        return refused(out, refusal);
     }
-    show_lines(s, times, &table);
+    show_lines(out, s, times, &table)
 }
 
 // The answer for an input.
-fn show(input: &[u8]) {
+fn show<W: Write>(out: &mut W, input: &[u8]) -> io::Result<()> {
     let q = read(text_in(input));
     let refusal = q.refusal;
     if refusal.number != GOOD {
-        refused(refusal);
-        return;
+        return refused(out, refusal);
     }
     let s = q.set;
-    show_set(s, times_in(input));
+    show_set(out, s, times_in(input))
 }
