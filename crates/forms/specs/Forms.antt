@@ -29,7 +29,7 @@ pub data Piece : Type 0 where
   got : ℕ → List ℕ → Piece
   short : List ℕ → Piece
 
--- the byte b is a digit, and the one_digit number lies between least and most
+-- the byte b is a digit, and the one-digit number lies between least and most
 unfoldable pub begins : ℕ → ℕ → ℕ → Bool
 begins least most b = leb 48 b && (leb b 57 && (leb least (b - 48) && leb (b - 48) most))
 

@@ -22,13 +22,13 @@ use Rattle.model.specs.declared.Ran.{Ran}
 use Rattle.model.specs.declared.Judged.{Judged}
 use Rattle.model.specs.declared.Assessed.{Assessed}
 use Rattle.columns.specs.declared.Columns.{Columns}
-use Rattle.rules.proofs.jobs.is_hi.Reads.{Post as is_hi_lem}
+use Rattle.rules.proofs.jobs.is_hi.Reads.{Post as is_hi}
 use Rattle.rules.proofs.jobs.breaks.Reads.{Post as breaks}
 use Rattle.rules.proofs.orders.places.Reads.{Post as places}
 use Rattle.rules.proofs.orders.fault_of.Reads.{Post as fault_of}
 use Rattle.checks.proofs.refusal_of.Reads.{Post as refusal_of}
-use Rattle.spans.proofs.span_of.Reads.{Post as Span_of}
-use Rattle.measures.proofs.in_range.Reads.{Post as in_range_lem}
+use Rattle.spans.proofs.span_of.Reads.{Post as span_of}
+use Rattle.measures.proofs.in_range.Reads.{Post as in_range}
 use Rattle.measures.proofs.outruns.Reads.{Post as outruns}
 use Rattle.measures.proofs.is_enabled.Reads.{Post as is_enabled}
 use Rattle.measures.proofs.misses.Reads.{Post as misses}
@@ -37,7 +37,7 @@ use Rattle.measures.proofs.margin_of.Reads.{Post as margin_of}
 use Rattle.columns.proofs.columns_of.Reads.{Post as columns_of}
 use Rattle.verdicts.proofs.assess.Reads.{Post as assess}
 use Rattle.verdicts.proofs.judge.Reads.{Post as judge}
-use Rattle.verdicts.proofs.finish_rows.Reads.{Post as finish_rows_lem}
+use Rattle.verdicts.proofs.finish_rows.Reads.{Post as finish_rows}
 use Rattle.verdicts.proofs.rows_refusal.Reads.{Post as rows_refusal}
 use Rattle.verdicts.proofs.worst_finishes.Reads.{Post as worst_finishes}
 use Rattle.verdicts.proofs.margins.Reads.{Post as margins}
@@ -49,7 +49,7 @@ use Rattle.parts.proofs.part_refusal.Reads.{Post as part_refusal}
 use Rattle.tables.proofs.make_tables.Reads.{Post as make_tables}
 
 abbrev pub IsHi : Level → Bool → Type 0
-IsHi l x = is_hi_lem tt (l, tt) x (l, tt)
+IsHi l x = is_hi tt (l, tt) x (l, tt)
 
 abbrev pub Breaks : Job → ℕ → Bool → Type 0
 Breaks j n x = breaks tt (j, (n, tt)) x (j, (n, tt))
@@ -64,7 +64,7 @@ abbrev pub RefusalOf : Set → Refusal → Type 0
 RefusalOf s x = refusal_of tt (s, tt) x (s, tt)
 
 abbrev pub SpanOf : Set → ℕ → Type 0
-SpanOf s x = Span_of tt (s, tt) x (s, tt)
+SpanOf s x = span_of tt (s, tt) x (s, tt)
 
 abbrev pub ColumnsOf : Set → Columns → Type 0
 ColumnsOf s x = columns_of tt (s, tt) x (s, tt)
@@ -76,7 +76,7 @@ abbrev pub Judges : Set → Judged → Type 0
 Judges s x = judge tt (s, tt) x (s, tt)
 
 abbrev pub FinishRows : Set → List (List ℕ) → Type 0
-FinishRows s x = finish_rows_lem tt (s, tt) x (s, tt)
+FinishRows s x = finish_rows tt (s, tt) x (s, tt)
 
 abbrev pub RowsRefusal : Set → Refusal → Type 0
 RowsRefusal s x = rows_refusal tt (s, tt) x (s, tt)
@@ -91,7 +91,7 @@ abbrev pub Executes : Set → List ℕ → Ran → Type 0
 Executes s c x = execute tt (s, (c, tt)) x (s, (c, tt))
 
 abbrev pub InRange : Bool → ℕ → ℕ → ℕ → Bool → Type 0
-InRange h lo hi c x = in_range_lem tt (h, (lo, (hi, (c, tt)))) x (h, (lo, (hi, (c, tt))))
+InRange h lo hi c x = in_range tt (h, (lo, (hi, (c, tt)))) x (h, (lo, (hi, (c, tt))))
 
 abbrev pub Outruns : Bool → ℕ → ℕ → Bool → Bool → Type 0
 Outruns h n lo d x = outruns tt (h, (n, (lo, (d, tt)))) x (h, (n, (lo, (d, tt))))

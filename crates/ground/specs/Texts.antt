@@ -20,10 +20,10 @@ use Rattle.pages.specs.declared.Page.{Page}
 use Rattle.fields.proofs.number.Reads.{Post as number}
 use Rattle.fields.proofs.expect.Reads.{Post as expect}
 use Rattle.fields.proofs.ending.Reads.{Post as ending}
-use Rattle.readings.proofs.level_number.Reads.{Post as level_number_lem}
+use Rattle.readings.proofs.level_number.Reads.{Post as level_number}
 use Rattle.readings.proofs.job_of.Reads.{Post as job_of}
 use Rattle.readings.proofs.no_job.Reads.{Post as no_job}
-use Rattle.readings.proofs.no_set.Reads.{Post as no_set_lem}
+use Rattle.readings.proofs.no_set.Reads.{Post as no_set}
 use Rattle.readings.proofs.answer.Reads.{Post as made}
 use Rattle.readings.proofs.refused.Reads.{Post as refused}
 use Rattle.plan_text.proofs.read.Reads.{Post as read}
@@ -58,7 +58,7 @@ abbrev pub Ending : List ℕ → ℕ → ℕ → Step → Type 0
 Ending t a b x = (κs : Lfts 1) × (p : Spot) × ending κs (slice p t, (a, (b, tt))) x (slice p t, (a, (b, tt)))
 
 abbrev pub LevelNumber : Level → ℕ → Type 0
-LevelNumber l x = level_number_lem tt (l, tt) x (l, tt)
+LevelNumber l x = level_number tt (l, tt) x (l, tt)
 
 abbrev pub JobOf : List ℕ → Job → Type 0
 JobOf l x = job_of tt (l, tt) x (l, tt)
@@ -67,7 +67,7 @@ abbrev pub NoJob : Job → Type 0
 NoJob x = no_job tt tt x tt
 
 abbrev pub NoSet : Set → Type 0
-NoSet x = no_set_lem tt tt x tt
+NoSet x = no_set tt tt x tt
 
 abbrev pub MadeOf : ℕ → ℕ → Set → ReadingOf → Type 0
 MadeOf n k s x = made tt (n, (k, (s, tt))) x (n, (k, (s, tt)))
