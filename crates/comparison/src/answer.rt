@@ -57,21 +57,11 @@ fn write_answer(answer: &mut Vec<u8>, line: &[u8], question: &[u8], s: Set) -> i
     bytes(answer, b"\n")
 }
 
-// Whether the answer written is the one wanted.
-fn is_wanted(answer: &[u8], want: &[u8]) -> bool {
-    check::same(answer, want)
-}
-
-// Prints the answer written.
-fn show_answer<W: Write>(out: &mut W, answer: &[u8]) -> io::Result<()> {
-    bytes(out, answer)
-}
-
 // Prints a case whose last question is answered otherwise, and the answer.
 pub fn show_difference<W: Write>(out: &mut W, case: &[u8], answer: &[u8]) -> io::Result<()> {
     bytes(out, case)?;
     bytes(out, b"The library answers:\n")?;
-    show_answer(out, answer)
+    bytes(out, answer)
 }
 
 // The kind under which a question is counted, in the case that begins with `line`. The answer is left in `answer`.
@@ -83,7 +73,7 @@ pub fn compared(
     s: Set,
 ) -> io::Result<usize> {
     write_answer(answer, line, question, s)?;
-    if is_wanted(answer, want) {
+    if check::same(answer, want) {
         return Ok(kind_of(first(question), want));
     }
     Ok(DIFFERENCES)

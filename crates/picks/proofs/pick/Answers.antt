@@ -9,12 +9,6 @@ loop-i-init c = (omega arith, refl)
 pub returns-then-is_ready : goal.returns-then-is_ready
 returns-then-is_ready c = pick-found _ _ _ _ _ (omega arith) c.loop-i.invariant.1 (sym c.is_ready.ensures ∙ c.if-is_ready.true)
 
-pub overflow_add-i : goal.overflow_add-i
-overflow_add-i c = omega arith
-
-pub loop-i-smaller : goal.loop-i-smaller
-loop-i-smaller c = omega arith
-
 pub loop-i-preserved : goal.loop-i-preserved
 loop-i-preserved c = (omega arith, pick_next _ _ _ _ _ (omega arith) c.loop-i.invariant.1 (sym c.is_ready.ensures ∙ c.if-is_ready.false))
 

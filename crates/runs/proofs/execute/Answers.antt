@@ -13,28 +13,29 @@ pub returns-then-refusal-ne-GOOD : goal.returns-then-refusal-ne-GOOD
 returns-then-refusal-ne-GOOD c = ran-refused _ _ _ _ c.refusal_of-refusal.ensures c.if-refusal-ne-GOOD.true c.not_run.ensures
 
 pub out_of_range-job-requires : goal.out_of_range-job-requires
-out_of_range-job-requires c = (
-  (let h : Prepared c.args.s c.columns_of-k.result = prepared _ _ (good_of _ _ c.refusal_of-refusal.ensures c.if-refusal-ne-GOOD.false) (let h : (length c.args.s.lo.entries ≡ 64) × (length c.args.s.hi.entries ≡ 64) × (length c.args.times ≡ 64) = (search rules, search rules, search rules) in h).0
-      (let h : (length c.args.s.lo.entries ≡ 64) × (length c.args.s.hi.entries ≡ 64) × (length c.args.times ≡ 64) = (search rules, search rules, search rules) in h).1 c.columns_of-k.ensures in h).testable,
-  search rules,
-)
+out_of_range-job-requires c =
+    let ready : Prepared c.args.s c.columns_of-k.result =
+    prepared _ _ (good_of _ _ c.refusal_of-refusal.ensures c.if-refusal-ne-GOOD.false) (search rules) (search rules) c.columns_of-k.ensures in
+    (ready.testable, search rules)
 
 pub returns-then-job-ne0 : goal.returns-then-job-ne0
-returns-then-job-ne0 c = ran-outside _ _ (let h : Prepared c.args.s c.columns_of-k.result = prepared _ _ (good_of _ _ c.refusal_of-refusal.ensures c.if-refusal-ne-GOOD.false) (let h : (length c.args.s.lo.entries ≡ 64) × (length c.args.s.hi.entries ≡ 64) × (length c.args.times ≡ 64) = (search rules, search rules, search rules) in h).0
-    (let h : (length c.args.s.lo.entries ≡ 64) × (length c.args.s.hi.entries ≡ 64) × (length c.args.times ≡ 64) = (search rules, search rules, search rules) in h).1 c.columns_of-k.ensures in h) _ _ _ c.out_of_range-job.ensures c.if-job-ne0.true c.not_run-then-job-ne0.ensures
+returns-then-job-ne0 c =
+    let ready : Prepared c.args.s c.columns_of-k.result =
+    prepared _ _ (good_of _ _ c.refusal_of-refusal.ensures c.if-refusal-ne-GOOD.false) (search rules) (search rules) c.columns_of-k.ensures in
+    ran-outside _ _ ready _ _ _ c.out_of_range-job.ensures c.if-job-ne0.true c.not_run-then-job-ne0.ensures
 
 pub span_in-requires : goal.span_in-requires
-span_in-requires c = (let h : Prepared c.args.s c.columns_of-k.result = prepared _ _ (good_of _ _ c.refusal_of-refusal.ensures c.if-refusal-ne-GOOD.false) (let h : (length c.args.s.lo.entries ≡ 64) × (length c.args.s.hi.entries ≡ 64) × (length c.args.times ≡ 64) = (search rules, search rules, search rules) in h).0
-    (let h : (length c.args.s.lo.entries ≡ 64) × (length c.args.s.hi.entries ≡ 64) × (length c.args.times ≡ 64) = (search rules, search rules, search rules) in h).1 c.columns_of-k.ensures in h).good
+span_in-requires c = good_of _ _ c.refusal_of-refusal.ensures c.if-refusal-ne-GOOD.false
 
 pub run_to-requires : goal.run_to-requires
-run_to-requires c = (
-  can_run_given _ (let h : Prepared c.args.s c.columns_of-k.result = prepared _ _ (good_of _ _ c.refusal_of-refusal.ensures c.if-refusal-ne-GOOD.false) (let h : (length c.args.s.lo.entries ≡ 64) × (length c.args.s.hi.entries ≡ 64) × (length c.args.times ≡ 64) = (search rules, search rules, search rules) in h).0
-      (let h : (length c.args.s.lo.entries ≡ 64) × (length c.args.s.hi.entries ≡ 64) × (length c.args.times ≡ 64) = (search rules, search rules, search rules) in h).1 c.columns_of-k.ensures in h).testable _ (let h : (length c.args.s.lo.entries ≡ 64) × (length c.args.s.hi.entries ≡ 64) × (length c.args.times ≡ 64) = (search rules, search rules, search rules) in h).2 (sym c.out_of_range-job.ensures ∙ c.if-job-ne0.false),
-  c.span_in.ensures ∙ ap span (sym (let h : Prepared c.args.s c.columns_of-k.result = prepared _ _ (good_of _ _ c.refusal_of-refusal.ensures c.if-refusal-ne-GOOD.false) (let h : (length c.args.s.lo.entries ≡ 64) × (length c.args.s.hi.entries ≡ 64) × (length c.args.times ≡ 64) = (search rules, search rules, search rules) in h).0
-      (let h : (length c.args.s.lo.entries ≡ 64) × (length c.args.s.hi.entries ≡ 64) × (length c.args.times ≡ 64) = (search rules, search rules, search rules) in h).1 c.columns_of-k.ensures in h).same),
-)
+run_to-requires c =
+    let ready : Prepared c.args.s c.columns_of-k.result =
+    prepared _ _ (good_of _ _ c.refusal_of-refusal.ensures c.if-refusal-ne-GOOD.false) (search rules) (search rules) c.columns_of-k.ensures in
+    let times_full : length c.args.times ≡ 64 = search rules in
+    (can_run_given _ ready.testable _ times_full (sym c.out_of_range-job.ensures ∙ c.if-job-ne0.false), c.span_in.ensures ∙ ap span (sym ready.same))
 
 pub returns : goal.returns
-returns c = ran-found _ _ (let h : Prepared c.args.s c.columns_of-k.result = prepared _ _ (good_of _ _ c.refusal_of-refusal.ensures c.if-refusal-ne-GOOD.false) (let h : (length c.args.s.lo.entries ≡ 64) × (length c.args.s.hi.entries ≡ 64) × (length c.args.times ≡ 64) = (search rules, search rules, search rules) in h).0
-    (let h : (length c.args.s.lo.entries ≡ 64) × (length c.args.s.hi.entries ≡ 64) × (length c.args.times ≡ 64) = (search rules, search rules, search rules) in h).1 c.columns_of-k.ensures in h) _ _ (sym c.out_of_range-job.ensures ∙ c.if-job-ne0.false) c.run_to.ensures
+returns c =
+    let ready : Prepared c.args.s c.columns_of-k.result =
+    prepared _ _ (good_of _ _ c.refusal_of-refusal.ensures c.if-refusal-ne-GOOD.false) (search rules) (search rules) c.columns_of-k.ensures in
+    ran-found _ _ ready _ _ (sym c.out_of_range-job.ensures ∙ c.if-job-ne0.false) c.run_to.ensures

@@ -17,18 +17,25 @@ pub returns-then-n-span : goal.returns-then-n-span
 returns-then-n-span c = slots-short _ _ _ _ c.span_of-span.ensures (good_of _ _ c.refusal_of-refusal.ensures c.if-refusal-ne-GOOD.false) c.if-n-span.true
 
 pub out_of_range-outside-requires : goal.out_of_range-outside-requires
-out_of_range-outside-requires c = (
-  (let h : Prepared c.args.s c.columns_of.result = let l = (let h : (length c.args.s.lo.entries ≡ 64) × (length c.args.s.hi.entries ≡ 64) = (search rules, search rules) in h) in
-      prepared _ _ (good_of _ _ c.refusal_of-refusal.ensures c.if-refusal-ne-GOOD.false) l.0 l.1 c.columns_of.ensures in h).testable,
-  search rules,
-)
+out_of_range-outside-requires c =
+    let ready : Prepared c.args.s c.columns_of.result =
+    prepared _ _ (good_of _ _ c.refusal_of-refusal.ensures c.if-refusal-ne-GOOD.false) (search rules) (search rules) c.columns_of.ensures in
+    (ready.testable, search rules)
 
 pub returns-then-outside-ne0 : goal.returns-then-outside-ne0
-returns-then-outside-ne0 c = slots-outside _ _ _ _ c.span_of-span.ensures (good_of _ _ c.refusal_of-refusal.ensures c.if-refusal-ne-GOOD.false) _ c.if-n-span.false (let h : let a = c.args in
-    c.out_of_range-outside.result ≡ outside (view a.s) a.times = c.out_of_range-outside.ensures ∙ ap (λ v. outside v c.args.times) (let h : Prepared c.args.s c.columns_of.result = let l = (let h : (length c.args.s.lo.entries ≡ 64) × (length c.args.s.hi.entries ≡ 64) = (search rules, search rules) in h) in
-    prepared _ _ (good_of _ _ c.refusal_of-refusal.ensures c.if-refusal-ne-GOOD.false) l.0 l.1 c.columns_of.ensures in h).same in h) c.if-outside-ne0.true
+returns-then-outside-ne0 c =
+    let good = good_of _ _ c.refusal_of-refusal.ensures c.if-refusal-ne-GOOD.false in
+    let ready : Prepared c.args.s c.columns_of.result =
+    prepared _ _ good (search rules) (search rules) c.columns_of.ensures in
+    let out : c.out_of_range-outside.result ≡ outside (view c.args.s) c.args.times =
+    c.out_of_range-outside.ensures ∙ ap (λ v. outside v c.args.times) ready.same in
+    slots-outside _ _ _ _ c.span_of-span.ensures good _ c.if-n-span.false out c.if-outside-ne0.true
 
 pub returns : goal.returns
-returns c = slots-good _ _ _ _ c.span_of-span.ensures (good_of _ _ c.refusal_of-refusal.ensures c.if-refusal-ne-GOOD.false) c.if-n-span.false (sym c.if-outside-ne0.false ∙ (let h : let a = c.args in
-    c.out_of_range-outside.result ≡ outside (view a.s) a.times = c.out_of_range-outside.ensures ∙ ap (λ v. outside v c.args.times) (let h : Prepared c.args.s c.columns_of.result = let l = (let h : (length c.args.s.lo.entries ≡ 64) × (length c.args.s.hi.entries ≡ 64) = (search rules, search rules) in h) in
-    prepared _ _ (good_of _ _ c.refusal_of-refusal.ensures c.if-refusal-ne-GOOD.false) l.0 l.1 c.columns_of.ensures in h).same in h))
+returns c =
+    let good = good_of _ _ c.refusal_of-refusal.ensures c.if-refusal-ne-GOOD.false in
+    let ready : Prepared c.args.s c.columns_of.result =
+    prepared _ _ good (search rules) (search rules) c.columns_of.ensures in
+    let out : c.out_of_range-outside.result ≡ outside (view c.args.s) c.args.times =
+    c.out_of_range-outside.ensures ∙ ap (λ v. outside v c.args.times) ready.same in
+    slots-good _ _ _ _ c.span_of-span.ensures good c.if-n-span.false (sym c.if-outside-ne0.false ∙ out)

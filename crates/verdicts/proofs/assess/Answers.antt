@@ -10,9 +10,10 @@ pub returns-then-refusal-ne-GOOD : goal.returns-then-refusal-ne-GOOD
 returns-then-refusal-ne-GOOD c = refused-assessed _ _ c.refusal_of-refusal.ensures c.if-refusal-ne-GOOD.true
 
 pub search-requires : goal.search-requires
-search-requires c = (let h : Prepared c.args.s c.columns_of.result = prepared _ _ (good_of _ _ c.refusal_of-refusal.ensures c.if-refusal-ne-GOOD.false) (search rules) (search rules)
-    c.columns_of.ensures in h)
+search-requires c = prepared _ _ (good_of _ _ c.refusal_of-refusal.ensures c.if-refusal-ne-GOOD.false) (search rules) (search rules) c.columns_of.ensures
 
 pub returns : goal.returns
-returns c = found-assessed _ _ (let h : Prepared c.args.s c.columns_of.result = prepared _ _ (good_of _ _ c.refusal_of-refusal.ensures c.if-refusal-ne-GOOD.false) (search rules) (search rules)
-    c.columns_of.ensures in h) _ c.search.ensures
+returns c =
+    let ready : Prepared c.args.s c.columns_of.result =
+    prepared _ _ (good_of _ _ c.refusal_of-refusal.ensures c.if-refusal-ne-GOOD.false) (search rules) (search rules) c.columns_of.ensures in
+    found-assessed _ _ ready _ c.search.ensures

@@ -10,9 +10,10 @@ pub returns-then-refusal-ne-GOOD : goal.returns-then-refusal-ne-GOOD
 returns-then-refusal-ne-GOOD c = refused-rows _ _ c.refusal_of-refusal.ensures c.if-refusal-ne-GOOD.true _ c.zero_rows.ensures
 
 pub rows_of-requires : goal.rows_of-requires
-rows_of-requires c = (let h : Prepared c.args.s c.columns_of.result = prepared _ _ (good_of _ _ c.refusal_of-refusal.ensures c.if-refusal-ne-GOOD.false) (search rules) (search rules)
-    c.columns_of.ensures in h)
+rows_of-requires c = prepared _ _ (good_of _ _ c.refusal_of-refusal.ensures c.if-refusal-ne-GOOD.false) (search rules) (search rules) c.columns_of.ensures
 
 pub returns : goal.returns
-returns c = found_rows _ _ (let h : Prepared c.args.s c.columns_of.result = prepared _ _ (good_of _ _ c.refusal_of-refusal.ensures c.if-refusal-ne-GOOD.false) (search rules) (search rules)
-    c.columns_of.ensures in h) _ c.rows_of.ensures
+returns c =
+    let ready : Prepared c.args.s c.columns_of.result =
+    prepared _ _ (good_of _ _ c.refusal_of-refusal.ensures c.if-refusal-ne-GOOD.false) (search rules) (search rules) c.columns_of.ensures in
+    found_rows _ _ ready _ c.rows_of.ensures

@@ -10,16 +10,16 @@ pub returns-then-refusal-ne-GOOD : goal.returns-then-refusal-ne-GOOD
 returns-then-refusal-ne-GOOD c = refused-margins _ _ c.refusal_of-refusal.ensures c.if-refusal-ne-GOOD.true
 
 pub worsts_of-requires : goal.worsts_of-requires
-worsts_of-requires c = (let h : Prepared c.args.s c.columns_of-k.result = prepared _ _ (good_of _ _ c.refusal_of-refusal.ensures c.if-refusal-ne-GOOD.false) (search rules) (search rules)
-    c.columns_of-k.ensures in h)
+worsts_of-requires c = prepared _ _ (good_of _ _ c.refusal_of-refusal.ensures c.if-refusal-ne-GOOD.false) (search rules) (search rules) c.columns_of-k.ensures
 
 pub margins_of-requires : goal.margins_of-requires
-margins_of-requires c = (
-  (let h : Prepared c.args.s c.columns_of-k.result = prepared _ _ (good_of _ _ c.refusal_of-refusal.ensures c.if-refusal-ne-GOOD.false) (search rules) (search rules)
-      c.columns_of-k.ensures in h).testable,
-  c.worsts_of.ensures,
-)
+margins_of-requires c =
+    let ready : Prepared c.args.s c.columns_of-k.result =
+    prepared _ _ (good_of _ _ c.refusal_of-refusal.ensures c.if-refusal-ne-GOOD.false) (search rules) (search rules) c.columns_of-k.ensures in
+    (ready.testable, c.worsts_of.ensures)
 
 pub returns : goal.returns
-returns c = found-margins _ _ (let h : Prepared c.args.s c.columns_of-k.result = prepared _ _ (good_of _ _ c.refusal_of-refusal.ensures c.if-refusal-ne-GOOD.false) (search rules) (search rules)
-    c.columns_of-k.ensures in h) _ c.margins_of.ensures
+returns c =
+    let ready : Prepared c.args.s c.columns_of-k.result =
+    prepared _ _ (good_of _ _ c.refusal_of-refusal.ensures c.if-refusal-ne-GOOD.false) (search rules) (search rules) c.columns_of-k.ensures in
+    found-margins _ _ ready _ c.margins_of.ensures

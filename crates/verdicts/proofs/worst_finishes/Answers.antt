@@ -10,9 +10,10 @@ pub returns-then-refusal-ne-GOOD : goal.returns-then-refusal-ne-GOOD
 returns-then-refusal-ne-GOOD c = refused-worsts _ _ c.refusal_of-refusal.ensures c.if-refusal-ne-GOOD.true
 
 pub worsts_of-requires : goal.worsts_of-requires
-worsts_of-requires c = (let h : Prepared c.args.s c.columns_of.result = prepared _ _ (good_of _ _ c.refusal_of-refusal.ensures c.if-refusal-ne-GOOD.false) (search rules) (search rules)
-    c.columns_of.ensures in h)
+worsts_of-requires c = prepared _ _ (good_of _ _ c.refusal_of-refusal.ensures c.if-refusal-ne-GOOD.false) (search rules) (search rules) c.columns_of.ensures
 
 pub returns : goal.returns
-returns c = found-worsts _ _ (let h : Prepared c.args.s c.columns_of.result = prepared _ _ (good_of _ _ c.refusal_of-refusal.ensures c.if-refusal-ne-GOOD.false) (search rules) (search rules)
-    c.columns_of.ensures in h) _ c.worsts_of.ensures
+returns c =
+    let ready : Prepared c.args.s c.columns_of.result =
+    prepared _ _ (good_of _ _ c.refusal_of-refusal.ensures c.if-refusal-ne-GOOD.false) (search rules) (search rules) c.columns_of.ensures in
+    found-worsts _ _ ready _ c.worsts_of.ensures

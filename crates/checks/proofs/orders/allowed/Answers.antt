@@ -16,14 +16,16 @@ loop-i-init c = (omega arith, refl, no_marks c.args.s c.args.m 64)
 
 pub loop-i-preserved : goal.loop-i-preserved
 unfolding may_stand critical view blank job
-loop-i-preserved c = let a = c.args in (
-  omega arith,
-  length-set c.loop-i.ok c.loop-i.i c.may_stand.result ∙ c.loop-i.invariant.1,
-  mark-more (may_stand (view a.s) a.m) c.loop-i.ok c.loop-i.i c.may_stand.result (omega arith) (let h : c.may_stand.result ≡ may_stand (view c.args.s) c.args.m (c.loop-i.i + 1) = let a = c.args in
-      let i = c.loop-i.i in
-      let part = and_i (le-leb 1 (i + 1) (omega arith)) (le-leb (i + 1) a.s.count (omega arith)) in
-      rw part (c.may_stand.ensures ∙ ap (λ j. not (is_hi a.m) || is_hi j.level) (sym (job_at_lem a.s i (omega arith)))) in h) c.loop-i.invariant.2,
-)
+loop-i-preserved c =
+    let a = c.args in
+    let i = c.loop-i.i in
+    let part = and_i (le-leb 1 (i + 1) (omega arith)) (le-leb (i + 1) a.s.count (omega arith)) in
+    let may : c.may_stand.result ≡ may_stand (view a.s) a.m (i + 1) =
+    rw part (c.may_stand.ensures ∙ ap (λ j. not (is_hi a.m) || is_hi j.level) (sym (job_at_lem a.s i (omega arith)))) in (
+      omega arith,
+      length-set c.loop-i.ok i c.may_stand.result ∙ c.loop-i.invariant.1,
+      mark-more (may_stand (view a.s) a.m) c.loop-i.ok i c.may_stand.result (omega arith) may c.loop-i.invariant.2,
+    )
 
 pub returns : goal.returns
 returns c = λ j.

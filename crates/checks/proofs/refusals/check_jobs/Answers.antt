@@ -9,23 +9,28 @@ use Rattle.checks.proofs.Firsts.{alone, taken, passed, time_is, budget_is}
 use Rattle.checks.proofs.refusals.check_jobs.Goals as goal
 
 pub returns-then-time-ne-GOOD : goal.returns-then-time-ne-GOOD
-returns-then-time-ne-GOOD c = taken c.placed-time.result _ _ (c.placed-time.ensures ∙ time_is c.args.s c.lowest.result c.lowest.ensures) c.if-time-ne-GOOD.true
+returns-then-time-ne-GOOD c =
+    taken c.placed-time.result _ _ (c.placed-time.ensures ∙ time_is c.args.s c.lowest.result c.lowest.ensures) c.if-time-ne-GOOD.true
 
 pub returns-then-budget-ne-GOOD : goal.returns-then-budget-ne-GOOD
-returns-then-budget-ne-GOOD c = let v = view c.args.s in
-    taken c.placed-budget.result (check_budget v ∷ []) (check_span v ∷ []) (let s = c.args.s in
-    c.placed-budget.ensures ∙ budget_is s c.lowest-2.result c.lowest-2.ensures) c.if-budget-ne-GOOD.true ∙ sym (let v = view c.args.s in
-    passed c.placed-time.result (check_time v ∷ []) (check_budget v ∷ check_span v ∷ []) (c.placed-time.ensures ∙ time_is c.args.s c.lowest.result c.lowest.ensures) c.if-time-ne-GOOD.false)
+returns-then-budget-ne-GOOD c =
+    let v = view c.args.s in
+    let time = passed c.placed-time.result (check_time v ∷ []) (check_budget v ∷ check_span v ∷ [])
+    (c.placed-time.ensures ∙ time_is c.args.s c.lowest.result c.lowest.ensures) c.if-time-ne-GOOD.false in
+    let budget = c.placed-budget.ensures ∙ budget_is c.args.s c.lowest-2.result c.lowest-2.ensures in
+    taken c.placed-budget.result (check_budget v ∷ []) (check_span v ∷ []) budget c.if-budget-ne-GOOD.true ∙ sym time
 
 pub returns : goal.returns
 unfolding check_span
-returns c = let v = view c.args.s in
+returns c =
+    let v = view c.args.s in
+    let time = passed c.placed-time.result (check_time v ∷ []) (check_budget v ∷ check_span v ∷ [])
+    (c.placed-time.ensures ∙ time_is c.args.s c.lowest.result c.lowest.ensures) c.if-time-ne-GOOD.false in
+    let budget = c.placed-budget.ensures ∙ budget_is c.args.s c.lowest-2.result c.lowest-2.ensures in
     let n = c.span_of-n.result in
     let e : c.applies.result ≡ applies 5 n (ltb 4096 n) = c.applies.ensures in
     e
     ∙ ap (λ k. applies 5 k (ltb 4096 k)) c.span_of-n.ensures
     ∙ alone 5 (span v) (ltb 4096 (span v)) (omega arith)
-    ∙ sym (passed c.placed-budget.result (check_budget v ∷ []) (check_span v ∷ []) (let s = c.args.s in
-    c.placed-budget.ensures ∙ budget_is s c.lowest-2.result c.lowest-2.ensures) c.if-budget-ne-GOOD.false)
-    ∙ sym (let v = view c.args.s in
-    passed c.placed-time.result (check_time v ∷ []) (check_budget v ∷ check_span v ∷ []) (c.placed-time.ensures ∙ time_is c.args.s c.lowest.result c.lowest.ensures) c.if-time-ne-GOOD.false)
+    ∙ sym (passed c.placed-budget.result (check_budget v ∷ []) (check_span v ∷ []) budget c.if-budget-ne-GOOD.false)
+    ∙ sym time

@@ -8,9 +8,6 @@ use Rattle.printing.proofs.lines.with_jobs.Goals as goal
 pub loop-i-init : goal.loop-i-init
 loop-i-init c = (omega arith, (good-count _ c.requires.0).1, jobs-start _ c.requires.0 _)
 
-pub loop-i-smaller : goal.loop-i-smaller
-loop-i-smaller c = omega arith
-
 pub loop-i-preserved : goal.loop-i-preserved
 unfolding blank job
 loop-i-preserved c = let s = c.args.s in

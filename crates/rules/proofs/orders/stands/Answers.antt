@@ -1,13 +1,10 @@
-use mathlib.Core.Path.{refl, sym, ◌∙◌, ap}
+use mathlib.Core.Path.{sym, ◌∙◌, ap}
 use native.Mathlib.Omega.{arith}
 use borrow.Author.Tests.{eq-eqb, ne_eqb}
 use lib.ListN.{get_or}
 use Rattle.model.specs.Lists.{any, mem}
 use Rattle.laws.proofs.Members.{cut_step, cut-end}
 use Rattle.rules.proofs.orders.stands.Goals as goal
-
-pub loop-k-init : goal.loop-k-init
-loop-k-init c = refl
 
 pub returns-then-o-k : goal.returns-then-o-k
 unfolding any mem

@@ -5,32 +5,8 @@ use Rattle.runs.proofs.engine.overrun.Goals as goal
 pub loop-i-init : goal.loop-i-init
 loop-i-init c = (omega arith, rest-start _ _ _ _ _)
 
-pub bounds-critical-i : goal.bounds-critical-i
-bounds-critical-i c = omega arith
-
-pub offset_bounds-had-i : goal.offset_bounds-had-i
-offset_bounds-had-i c = omega arith
-
-pub bounds-had-i : goal.bounds-had-i
-bounds-had-i c = omega arith
-
-pub offset_bounds-lo-i : goal.offset_bounds-lo-i
-offset_bounds-lo-i c = omega arith
-
-pub bounds-lo-i : goal.bounds-lo-i
-bounds-lo-i c = omega arith
-
-pub bounds-done-i : goal.bounds-done-i
-bounds-done-i c = omega arith
-
 pub returns-then-outruns : goal.returns-then-outruns
 returns-then-outruns c = rest-found _ _ _ _ _ _ c.requires c.loop-i-test.true c.loop-i.invariant.1 _ c.outruns.ensures c.if-outruns.true
-
-pub overflow_add-i : goal.overflow_add-i
-overflow_add-i c = omega arith
-
-pub loop-i-smaller : goal.loop-i-smaller
-loop-i-smaller c = omega arith
 
 pub loop-i-preserved : goal.loop-i-preserved
 loop-i-preserved c = (omega arith, rest_more _ _ _ _ _ _ c.requires c.loop-i-test.true c.loop-i.invariant.1 _ c.outruns.ensures c.if-outruns.false)

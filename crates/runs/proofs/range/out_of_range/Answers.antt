@@ -8,9 +8,6 @@ loop-i-init c = (omega arith, λ m q. absurd (omega arith))
 pub returns-then-not-in_range : goal.returns-then-not-in_range
 returns-then-not-in_range c = outside-here _ c.requires.0 _ _ _ c.loop-i.invariant.1 c.loop-i-test.true c.in_range.ensures (c.if-not-in_range.true)
 
-pub loop-i-smaller : goal.loop-i-smaller
-loop-i-smaller c = omega arith
-
 pub loop-i-preserved : goal.loop-i-preserved
 loop-i-preserved c = (omega arith, inside_more _ c.requires.0 _ _ _ c.loop-i.invariant.1 c.in_range.ensures (c.if-not-in_range.false))
 

@@ -31,21 +31,6 @@ slice_bounds-step-end-in-loop-t-5 c = sym c.loop-t.invariant.times
 pub step-g-requires : goal.step-g-requires
 step-g-requires c = can_turn _ _ _ _ _ _ _ c.loop-t.invariant c.loop-t-test.true
 
-pub overflow_cast-table : goal.overflow_cast-table
-overflow_cast-table c = omega arith
-
-pub offset_bounds-table-t : goal.offset_bounds-table-t
-offset_bounds-table-t c = omega arith
-
-pub bounds-table-t : goal.bounds-table-t
-bounds-table-t c = omega arith
-
-pub overflow_add-t : goal.overflow_add-t
-overflow_add-t c = omega arith
-
-pub loop-t-smaller : goal.loop-t-smaller
-loop-t-smaller c = omega arith
-
 pub loop-t-preserved : goal.loop-t-preserved
 loop-t-preserved c = next-turn _ _ _ _ _ _ _ c.loop-t.invariant _ c.loop-t-test.true c.step-g.ensures
 

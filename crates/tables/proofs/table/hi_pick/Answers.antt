@@ -11,12 +11,6 @@ pub returns-then-enables : goal.returns-then-enables
 unfolding chosen
 returns-then-enables c = left_found _ _ _ (omega arith) c.loop-i.invariant.1 (sym c.enables.ensures ∙ c.if-enables.true)
 
-pub overflow_add-i : goal.overflow_add-i
-overflow_add-i c = omega arith
-
-pub loop-i-smaller : goal.loop-i-smaller
-loop-i-smaller c = omega arith
-
 pub loop-i-preserved : goal.loop-i-preserved
 loop-i-preserved c = (omega arith, left_next _ _ _ (omega arith) c.loop-i.invariant.1 (sym c.enables.ensures ∙ c.if-enables.false))
 

@@ -18,20 +18,11 @@ slice_bounds-hi_pick-end-in-loop-t c = sym c.loop-t.invariant.hi-places
 pub slice_bounds-hi_pick-end-in-loop-t-2 : goal.slice_bounds-hi_pick-end-in-loop-t-2
 slice_bounds-hi_pick-end-in-loop-t-2 c = sym c.loop-t.invariant.lo-places
 
-pub bounds-table-t : goal.bounds-table-t
-bounds-table-t c = omega arith
-
 pub count-lo_more-requires : goal.count-lo_more-requires
 count-lo_more-requires c = lo_countable _ _ _ _ _ _ _ _ c.loop-t.invariant _
 
 pub count-more-requires : goal.count-more-requires
 count-more-requires c = hi_countable _ _ _ _ _ _ _ _ c.loop-t.invariant _
-
-pub overflow_add-t : goal.overflow_add-t
-overflow_add-t c = omega arith
-
-pub loop-t-smaller : goal.loop-t-smaller
-loop-t-smaller c = omega arith
 
 pub loop-t-preserved : goal.loop-t-preserved
 loop-t-preserved c = next-turn _ _ _ _ _ _ _ _ c.loop-t.invariant _ _ _ c.requires.1 c.loop-t-test.true c.hi_pick-j.ensures

@@ -7,9 +7,6 @@ use Rattle.verdicts.proofs.rows.raise.Goals as goal
 pub loop-i-init : goal.loop-i-init
 loop-i-init c = (omega arith, sym (up_to_zero _ 0))
 
-pub loop-i-smaller : goal.loop-i-smaller
-loop-i-smaller c = omega arith
-
 pub loop-i-preserved : goal.loop-i-preserved
 loop-i-preserved c = (
   omega arith,

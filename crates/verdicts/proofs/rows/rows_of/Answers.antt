@@ -21,9 +21,6 @@ ends_in-finishes-requires c = let p = c.requires in
 pub bounds-rows-x : goal.bounds-rows-x
 bounds-rows-x c = omega (arith, c.requires.testable.full.n, c.loop-x-test.true)
 
-pub loop-x-smaller : goal.loop-x-smaller
-loop-x-smaller c = omega arith
-
 pub loop-x-preserved : goal.loop-x-preserved
 loop-x-preserved c = (
   omega arith,

@@ -21,9 +21,6 @@ ends_in-finishes-requires c = let p = c.requires in
 pub raise-raised-requires : goal.raise-raised-requires
 raise-raised-requires c = c.requires.testable
 
-pub loop-x-smaller : goal.loop-x-smaller
-loop-x-smaller c = omega arith
-
 pub loop-x-preserved : goal.loop-x-preserved
 loop-x-preserved c = (
   omega arith,

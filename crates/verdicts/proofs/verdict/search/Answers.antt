@@ -7,6 +7,17 @@ use Rattle.verdicts.proofs.Search.{rest-start, passed_more, missed-turn}
 use Rattle.verdicts.proofs.verdict.search.Goals as goal
 use Rattle.verdicts.proofs.verdict.search.Goals.{then-plays_in+else-loop-job-test, else-plays_in, else-search-test, then-search-test+then-plays_in+then-loop-job-test+then-misses}
 
+-- where the search has left its loops, by the scenarios' end or by the break, and a miss was found
+left : (c : goal.Then-x-n) → Found c.args.k c.search.x c.search-test.job c.search-test.finish c.search-test.times
+left c =
+    elim c.search-test.branch [
+      | else-search-test w ↦ found_fit _ c.requires.testable _ _ _ _ c.search.invariant.1 w.search-test.false
+      | then-search-test+then-plays_in+then-loop-job-test+then-misses w ↦
+          rw (w.job-is, w.finish-is, w.times-is)
+          (found-miss _ c.requires.testable _ _ _ _ _ _ c.search.invariant.1 w.search-test.true (sym w.plays_in.ensures ∙ w.if-plays_in.true) w.times_in-times.ensures
+          w.loop-job.invariant.2 w.loop-job.invariant.1 w.loop-job-test.true refl w.misses.ensures w.if-misses.true)
+    ]
+
 pub lo_ends-ends-requires : goal.lo_ends-ends-requires
 lo_ends-ends-requires c = c.requires
 
@@ -36,9 +47,6 @@ loop-job-preserved c = let t = c.requires.testable in (
 pub raise-raised-requires : goal.raise-raised-requires
 raise-raised-requires c = c.requires.testable
 
-pub search-smaller : goal.search-smaller
-search-smaller c = omega arith
-
 pub search-preserved : goal.search-preserved
 search-preserved c = let t = c.requires.testable in
     let q = c.search-test.true in
@@ -59,37 +67,17 @@ search-preserved c = let t = c.requires.testable in
 
 pub unfit_in-requires : goal.unfit_in-requires
 unfit_in-requires c =
-    let left : Found c.args.k c.search.x c.search-test.job c.search-test.finish c.search-test.times =
-    elim c.search-test.branch [
-      | else-search-test w ↦ found_fit _ c.requires.testable _ _ _ _ c.search.invariant.1 w.search-test.false
-      | then-search-test+then-plays_in+then-loop-job-test+then-misses w ↦
-          rw (w.job-is, w.finish-is, w.times-is)
-          (found-miss _ c.requires.testable _ _ _ _ _ _ c.search.invariant.1 w.search-test.true (sym w.plays_in.ensures ∙ w.if-plays_in.true) w.times_in-times.ensures
-          w.loop-job.invariant.2 w.loop-job.invariant.1 w.loop-job-test.true refl w.misses.ensures w.if-misses.true)
-    ] in
-    (omega (arith, c.requires.testable.full.n, c.if-x-n.true), job_fits _ c.requires.testable _ _ _ _ left c.if-x-n.true)
+    (omega (arith, c.requires.testable.full.n, c.if-x-n.true), job_fits _ c.requires.testable _ _ _ _ (left c) c.if-x-n.true)
 
 pub returns-then-x-n : goal.returns-then-x-n
-returns-then-x-n c =
-    let left : Found c.args.k c.search.x c.search-test.job c.search-test.finish c.search-test.times =
-    elim c.search-test.branch [
-      | else-search-test w ↦ found_fit _ c.requires.testable _ _ _ _ c.search.invariant.1 w.search-test.false
-      | then-search-test+then-plays_in+then-loop-job-test+then-misses w ↦
-          rw (w.job-is, w.finish-is, w.times-is)
-          (found-miss _ c.requires.testable _ _ _ _ _ _ c.search.invariant.1 w.search-test.true (sym w.plays_in.ensures ∙ w.if-plays_in.true) w.times_in-times.ensures
-          w.loop-job.invariant.2 w.loop-job.invariant.1 w.loop-job-test.true refl w.misses.ensures w.if-misses.true)
-    ] in
-    unfit_is _ c.requires.testable _ _ _ _ _ left c.if-x-n.true c.unfit_in.ensures
+returns-then-x-n c = unfit_is _ c.requires.testable _ _ _ _ _ (left c.before) c.if-x-n.true c.unfit_in.ensures
 
 pub returns : goal.returns
 returns c =
     let t = c.requires.testable in
     let left : Found c.args.k c.search.x c.search-test.job c.search-test.finish c.search-test.times =
     elim c.search-test.branch [
-      | else-search-test w ↦ found_fit _ c.requires.testable _ _ _ _ c.search.invariant.1 w.search-test.false
-      | then-search-test+then-plays_in+then-loop-job-test+then-misses w ↦
-          rw (w.job-is, w.finish-is, w.times-is)
-          (found-miss _ c.requires.testable _ _ _ _ _ _ c.search.invariant.1 w.search-test.true (sym w.plays_in.ensures ∙ w.if-plays_in.true) w.times_in-times.ensures
-          w.loop-job.invariant.2 w.loop-job.invariant.1 w.loop-job-test.true refl w.misses.ensures w.if-misses.true)
+      | else-search-test w ↦ found_fit _ t _ _ _ _ c.search.invariant.1 w.search-test.false
+      | then-search-test+then-plays_in+then-loop-job-test+then-misses w ↦ absurd (omega (arith, w.search-test.true, c.if-x-n.false))
     ] in
     fit_is _ t _ _ _ _ _ _ left c.if-x-n.false (carried_end _ t _ _ c.search.invariant.2 c.if-x-n.false c.search.invariant.0) c.fit_with.ensures
