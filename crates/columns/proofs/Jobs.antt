@@ -1,6 +1,6 @@
 -- A set's jobs, and how a loop fills its columns, job by job.
 --   cut_at, cut-take      == what a list cut at n holds; it is the first n of a list that has them
---   job_at_lem, job_out       == job i + 1 stands at place i; beyond the count there is the blank job
+--   job_at_lem, job_out   == job i + 1 stands at place i; beyond the count there is the blank job
 --   Filled s i a d c l h  == the columns are filled up to job i;  filled_zero, filled_more: a loop's first turn, and the next
 --   filled_all            == filled up to the count, or to the last place, they are the set's
 -- Assumes nothing.

@@ -1,7 +1,7 @@
 -- A set column by column.
 --   listed         == the policy that these lists spell out
---   view_of k       == the view that the columns k spell out
---   columns_of s    == the columns of the set s
+--   view_of k      == the view that the columns k spell out
+--   columns_of s   == the columns of the set s
 --   Full k         == columns of 64 places, and counts within them
 --   Testable k     == full columns of a sound set, with 0 beyond the LO budgets
 --   Prepared s k   == k are the columns of a set s that passes the checks, as private functions above ask for them

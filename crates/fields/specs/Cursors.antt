@@ -1,5 +1,5 @@
 -- What is read at a cursor of the text: a place from which it goes on.
---   piece_at t r          == the piece of the text t that the answer r tells;  reached r: its cursor
+--   piece_at t r         == the piece of the text t that the answer r tells;  reached r: its cursor
 --   Found t at part r    == from the cursor on, the answer r is what the definition `part` reads
 --   onward t f r         == the scan of what is left, by the form f, where the step r leads;  stands r: its cursor
 --   Steps t at part r    == from the cursor on, the step r is what the scan of `part` does, whatever form follows it

@@ -1,12 +1,12 @@
 -- The scan accepts a text exactly if it is of the form, and gives its set.
---   Fits js lo hi      == the constraints on counts and numbers, of lists
---   written js lo hi   == the text of these lists, part behind part
+--   Fits js lo hi        == the constraints on counts and numbers, of lists
+--   written js lo hi     == the text of these lists, part behind part
 --   after_jobs, after_lo == what of it stands behind the jobs, behind the LO order
 --   plan-scan, plan-read       == the scan gives the set of lists that fit for their text, and for no other
 --   set-jobs, set-lo, set-hi   == a set written down has these jobs and orders
 --   form_fits, fits_form       == a set is of the form exactly if its lists fit
---   text_written       == its text is the text of its lists
---   accepts, accepted  == t is the text of s exactly if the scan of t gives s
+--   text_written         == its text is the text of its lists
+--   accepts, accepted    == t is the text of s exactly if the scan of t gives s
 -- Assumes nothing.
 use Prim.Native.Nat.{ℕ, ◌-◌, ◌≤◌}
 use mathlib.Core.Path.{◌≡◌, refl, sym, ◌∙◌, ap, ap₂, subst}

@@ -1,8 +1,8 @@
 -- The three sections, in a form and in a text.
 --   job_lines js    == the lines of the jobs js
---   UpTo l         == each number of l is at most 65,535
+--   UpTo l          == each number of l is at most 65,535
 --   ..-sane, ..-scan, ..-read   == as for lines
---   plan_sane      == the form of a plan text is sane
+--   plan_sane       == the form of a plan text is sane
 -- Assumes nothing.
 use Prim.Native.Nat.{ℕ, zero, suc, ◌≤◌, max}
 use mathlib.Core.Path.{◌≡◌, refl, sym, ◌∙◌, ap, subst}

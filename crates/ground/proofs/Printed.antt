@@ -1,11 +1,11 @@
 -- What is printed, by the answers of the library's functions.
---   shown_is             == what a page shows for a text is what document 01 prints for what was read of it
---   refused_text_lem         == of a text that is refused;  read_text: of one that is not, by the judgement of its set
+--   shown_is                     == what a page shows for a text is what document 01 prints for what was read of it
+--   refused_text_lem             == of a text that is refused;  read_text: of one that is not, by the judgement of its set
 --   fit_word_lem, unfit_word_lem == what begins with FIT, or with UNFIT, is the answer to the text of a set that is judged so
---   refused_word_lem         == and what begins with REFUSED is the answer to any other text
---   flat_cong            == lists joined are the same where each of them is
---   worst_is, margin_is  == the worst finish and the margin of a job stand at its place in what the functions return
---   fit_text_lem             == the answer to a fit set, by the span, the worst finishes and the margins;  times_text: that to an unfit one, by the times
+--   refused_word_lem             == and what begins with REFUSED is the answer to any other text
+--   flat_cong                    == lists joined are the same where each of them is
+--   worst_is, margin_is          == the worst finish and the margin of a job stand at its place in what the functions return
+--   fit_text_lem                 == the answer to a fit set, by the span, the worst finishes and the margins;  times_text: that to an unfit one, by the times
 -- Assumes nothing.
 use Prim.Native.Nat.{ℕ}
 use mathlib.Core.Path.{◌≡◌, refl, sym, ◌∙◌, ap, subst}

@@ -1,5 +1,5 @@
 -- Set P of document 01, from its text to what is printed for it. The premises of Texts are met, and the bytes are the document's.
---   text_of_P          == the text of P, byte by byte;  lines_of_P: the four lines that the document prints for it
+--   text_of_P        == the text of P, byte by byte;  lines_of_P: the four lines that the document prints for it
 --   P_text           == the first is the text of P, and of the form;  P-form: so is that of P with another deadline for job 1
 --   read_at_P        == `read` may answer P for it, and nothing else
 --   printed_at_P     == the four lines are printed for it, and nothing else;  answers_at_P: the answers of the library that they are made of

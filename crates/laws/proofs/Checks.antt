@@ -1,12 +1,12 @@
 -- What the checks of document 01 say of a set that passes them, and of a run that does.
---   hi_jobs-mem, hi_jobs_i  == the HI jobs are those of level HI that take part
---   fault-none              == an order without a fault names only whom it may, and nobody twice
---   first_good, applies-not == what it says that the first refusal of a list, or one check, is good
---   Passes v                == each of checks 2 to 7 is good;  checks_pass: so it is where the refusal is good
---   counts_right            == what check 2 says: N from 1 to 64, and the orders' counts
---   view-placed             == the jobs of a set are places, where N is at most 64
---   passes_sound            == a set that passes checks 2 to 7 is sound
---   in_range_lem, check_run_lem     == a run is what gives each job a time of its range
+--   hi_jobs-mem, hi_jobs_i      == the HI jobs are those of level HI that take part
+--   fault-none                  == an order without a fault names only whom it may, and nobody twice
+--   first_good, applies-not     == what it says that the first refusal of a list, or one check, is good
+--   Passes v                    == each of checks 2 to 7 is good;  checks_pass: so it is where the refusal is good
+--   counts_right                == what check 2 says: N from 1 to 64, and the orders' counts
+--   view-placed                 == the jobs of a set are places, where N is at most 64
+--   passes_sound                == a set that passes checks 2 to 7 is sound
+--   in_range_lem, check_run_lem == a run is what gives each job a time of its range
 -- Assumes nothing.
 use Prim.Native.Nat.{ℕ, suc, ◌≤◌, ◌<◌}
 use mathlib.Core.Path.{◌≡◌, refl, sym, ◌∙◌, ap, subst}

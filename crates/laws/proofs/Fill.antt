@@ -2,8 +2,8 @@
 --   map_same, map-length    == lists that agree at 1 to 64 are equal; such a list has 64 places
 --   map_at, map-set         == what stands at a place; what a store does
 --   mixed k f g             == f up to k, and g beyond;  mixed_zero, mixed-set, mixed_keep, mixed_all: before a loop, its turns, after it
---   up_to k f z              == f up to k, and z beyond;  up_to_zero, up_to_suc, up_to-more: before a loop, and its turn
---   up_to-end                == past the last place there is nothing to fill;  up_to-places: filled up to n, as the model writes it
+--   up_to k f z             == f up to k, and z beyond;  up_to_zero, up_to_suc, up_to-more: before a loop, and its turn
+--   up_to-end               == past the last place there is nothing to fill;  up_to-places: filled up to n, as the model writes it
 -- Assumes nothing.
 use Prim.Native.Nat.{ℕ, zero, suc, ◌+◌, ◌≤◌, ◌<◌, min}
 use mathlib.Core.Path.{◌≡◌, refl, sym, ◌∙◌, ap}

@@ -2,7 +2,7 @@
 --   cut_at        == before the cut, a cut list holds what the list holds
 --   cut_step      == the entries of a cut list from place i on: the one at i, and those after it;  cut-end: none, where i is past the cut
 --   cut-more      == a cut one place further on has one entry more
---   job_at_lem        == job i + 1 stands at place i
+--   job_at_lem    == job i + 1 stands at place i
 --   members_are   == the members are the numbers 1 to N, at most 64 of them
 --   members-from  == they are the n numbers after 0, where a loop over them begins
 --   from_step     == the numbers from i + 1 to n: i + 1, and those after it;  from_end: none, where i is past n

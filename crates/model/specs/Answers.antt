@@ -1,12 +1,12 @@
 -- The answers of document 01 for every set, refused or not, by its view. "No verdict comes with [a refusal], and no part but the empty one;
 -- .. running times, finishes, finish tables and margins come back all 0, and everything lent is untouched."
---   picked j              == the pick as an answer: a job, or idle;  lent_pick: the pick over lent numbers
---   judged v              == the judgement, and the times beside it;  assessed v: with them, where it is fit, the worst finishes
---   finish_rows v          == the finish rows;  worsts v, margins v: worst finishes and margins
---   ran v c               == the execution of the run with times c
---   tables_refusal v m n   == the refusal of making both tables into room of lengths m and n
+--   picked j                  == the pick as an answer: a job, or idle;  lent_pick: the pick over lent numbers
+--   judged v                  == the judgement, and the times beside it;  assessed v: with them, where it is fit, the worst finishes
+--   finish_rows v             == the finish rows;  worsts v, margins v: worst finishes and margins
+--   ran v c                   == the execution of the run with times c
+--   tables_refusal v m n      == the refusal of making both tables into room of lengths m and n
 --   lo_table_in, hi_table_in  == what the two lent tables hold afterwards
---   slots_refusal v c n    == the refusal of writing the slots of the run with times c into room of length n;  slots_in: what the room holds afterwards
+--   slots_refusal v c n       == the refusal of writing the slots of the run with times c into room of length n;  slots_in: what the room holds afterwards
 use Rattle.std.specs.Prelude.{ℕ, suc, Bool, cond, List, [], ◌∷◌, ◌++◌, map, eqb, ℤ, pos, length, drop, replicate}
 use Rattle.model.specs.declared.Pick.{Pick}
 use Rattle.model.specs.declared.Pick.TheVariants.{Job as JobPick, Idle}

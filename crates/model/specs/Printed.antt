@@ -2,10 +2,10 @@
 --   refused_text r    == the answer to what is refused
 --   fit_text v        == the answer to a fit set;  unfit_text v m c: to an unfit one, with miss m and running times c
 --   judged_text v r   == the answer to the set of view v, judged r
---   printed q        == what the program prints for a text with reading q
---   Prints t l       == l is what the program prints for the text t
-use Rattle.std.specs.Prelude.{ℕ, suc, ◌≡◌, ℤ, pos, negsuc}
-use mathlib.Core.List.{List, [], ◌∷◌, ◌++◌, map, flat_map}
+--   printed q         == what the program prints for a text with reading q
+--   Prints t l        == l is what the program prints for the text t
+use Rattle.std.specs.Prelude.{ℕ, suc, ◌≡◌, ℤ, pos, negsuc, List, [], ◌∷◌, ◌++◌, map}
+use mathlib.Core.List.{flat_map}
 use Rattle.model.specs.declared.Refusal.{Refusal}
 use Rattle.model.specs.declared.Reading.{Reading}
 use Rattle.model.specs.declared.Scenario.{Scenario}

@@ -2,7 +2,7 @@
 --   good              == no refusal
 --   applies n k b     == refusal n with place k, where b says that it applies
 --   placed n k        == refusal n with place k, a number from 1; k = 0 says that it does not apply
---   first_of l         == the first refusal of l that applies
+--   first_of l        == the first refusal of l that applies
 --   lowest n v bad    == refusal n at the lowest job that is bad
 --   fault ok l        == the first position of l, from 1, whose entry is not ok or repeats; 0 where there is none
 --   checks v          == checks 2 to 7;  refusal v: the first that applies

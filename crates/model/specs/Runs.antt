@@ -1,12 +1,12 @@
 -- Document 01, "One run". A run is a policy p and its running times c, a list with a place for each job.
 --   time c j          == the running time of job j
---   mode_now p s       == rule 1: the mode at an instant, from the state s that the run has reached
+--   mode_now p s      == rule 1: the mode at an instant, from the state s that the run has reached
 --   pick l a d t      == rule 3: who gets slot t by the order l, where a gives the arrivals and d says who is done; 0 for idle
---   slot_now p s t     == so who gets slot t from the state s
+--   slot_now p s t    == so who gets slot t from the state s
 --   account c j m s   == the state after a slot of job j in mode m
---   state_at p c t     == the state at instant t, before rule 1;  mode_at, slot_at, had_at, done_at: what it says
+--   state_at p c t    == the state at instant t, before rule 1;  mode_at, slot_at, had_at, done_at: what it says
 --   outcome p c n j   == what became of job j, looking at the instants up to n;  mark: the number that the paper writes for it
---   switch_of p c n    == the switch, looking at the instants before n
+--   switch_of p c n   == the switch, looking at the instants before n
 --   required, late, meets v c      == which deadlines the run requires, and whether it meets them
 --   limit v j, in_range, is_run v c  == which times a run may have
 use Rattle.std.specs.Prelude.{ℕ, zero, suc, ◌-◌, Bool, true, false, cond, not, ◌&&◌, ◌||◌, List, map, eqb, leb, ltb, replicate, set}

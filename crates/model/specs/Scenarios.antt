@@ -1,12 +1,12 @@
 -- Document 01, "The published test".
---   places v f       == f for each job that takes part, 0 at every other of the 64 places
---   scenarios v      == scenario LO, then HI of each HI job, rising
+--   places v f        == f for each job that takes part, 0 at every other of the 64 places
+--   scenarios v       == scenario LO, then HI of each HI job, rising
 --   times_of v x      == the running times of scenario x
 --   late_in v c       == the lowest-numbered late job whose deadline the run c requires; 0 where none is
---   search v l       == the first required miss over the scenarios l
---   verdict v        == the verdict;  times_beside: the running times beside it
---   rows v           == the finish times of all scenarios, row 0 LO and row J of HI job J
---   worst v j        == the worst finish;  margin v j: D minus the worst finish;  worsts_beside: the worst finishes beside a verdict
+--   search v l        == the first required miss over the scenarios l
+--   verdict v         == the verdict;  times_beside: the running times beside it
+--   rows v            == the finish times of all scenarios, row 0 LO and row J of HI job J
+--   worst v j         == the worst finish;  margin v j: D minus the worst finish;  worsts_beside: the worst finishes beside a verdict
 use Rattle.std.specs.Prelude.{ℕ, Bool, cond, not, ◌&&◌, ◌||◌, List, [], ◌∷◌, map, eqb, ℤ, pos, ◌-ℤ◌, replicate}
 use Rattle.model.specs.declared.Scenario.{Scenario}
 use Rattle.model.specs.declared.Scenario.TheVariants.{Lo, Hi}

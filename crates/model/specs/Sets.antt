@@ -1,5 +1,5 @@
 -- Document 01, "The set".
---   is_hi m        == the level, or the mode, is HI
+--   is_hi m       == the level, or the mode, is HI
 --   job, set      == a job and a set written down
 --   Policy        == what a run looks at: never a HI budget, a deadline or the span
 --   View          == a set as jobs 1 to N and two lists

@@ -1,8 +1,8 @@
 -- Document 01, "The two tables".
---   lo_table v         == scenario 0, slot by slot
+--   lo_table v        == scenario 0, slot by slot
 --   enabled v t h j   == rules (a), (b), (c) for HI job j at t, where h holds the slots had in the HI table
---   hi_had_at v t       == the slots that each job has had before t in the HI table
---   hi_table v         == the HI table
+--   hi_had_at v t     == the slots that each job has had before t in the HI table
+--   hi_table v        == the HI table
 --   part l t          == the part of the table l from instant t to its end
 use Rattle.std.specs.Prelude.{ℕ, zero, suc, Bool, cond, ◌&&◌, ◌||◌, List, map, eqb, ltb, drop}
 use Rattle.model.specs.declared.Level.TheVariants.{Hi}

@@ -1,15 +1,15 @@
 -- Document 01, "Plan text and program": the form of the text.
---   decimal n      == the number n in decimal;  digit d: the byte of a digit
---   fields l       == the fields l on a line;  line l: the numbers l on a line
+--   decimal n       == the number n in decimal;  digit d: the byte of a digit
+--   fields l        == the fields l on a line;  line l: the numbers l on a line
 --   job_numbers j   == what the line of job j says;  level_number l: the number of a level
 --   text_of s       == the text of the set s: its three sections;  jobs_of s: its jobs
---   InForm s       == the constraints on counts and numbers, and nothing in the room
---   TextOf s t     == t is the text of the set s, and is of the form
---   WellFormed t   == t is of the form;  Opening q: some well-formed text begins with q
---   Place t n      == n is the length of the longest prefix of t that some well-formed text also begins with
---   Reads t r      == what the reader answers for the text t
-use Rattle.std.specs.Prelude.{ℕ, zero, suc, ◌+◌, ◌/◌, ◌%◌, ◌≤◌, ◌≡◌, cond, ◌⊎◌, eqb, ltb, length, take}
-use mathlib.Core.List.{List, [], ◌∷◌, ◌++◌, map, flat_map}
+--   InForm s        == the constraints on counts and numbers, and nothing in the room
+--   TextOf s t      == t is the text of the set s, and is of the form
+--   WellFormed t    == t is of the form;  Opening q: some well-formed text begins with q
+--   Place t n       == n is the length of the longest prefix of t that some well-formed text also begins with
+--   Reads t r       == what the reader answers for the text t
+use Rattle.std.specs.Prelude.{ℕ, zero, suc, ◌+◌, ◌/◌, ◌%◌, ◌≤◌, ◌≡◌, cond, ◌⊎◌, eqb, ltb, length, take, List, [], ◌∷◌, ◌++◌, map}
+use mathlib.Core.List.{flat_map}
 use Rattle.model.specs.declared.Level.{Level}
 use Rattle.model.specs.declared.Level.TheVariants.{Lo, Hi}
 use Rattle.model.specs.declared.Job.{Job}

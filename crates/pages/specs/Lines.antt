@@ -1,5 +1,5 @@
 -- The lines that the program prints, as the code makes them (what the program prints is said in model).
---   rest l         == what follows the first field of a line: the fields l, each behind a space, and the LF
+--   rest l          == what follows the first field of a line: the fields l, each behind a space, and the LF
 --   job_line j w d  == the line of job j with worst finish w and deadline d
 --   miss_line m     == the first line of the answer to an unfit set
 use Rattle.std.specs.Prelude.{ℕ, List, [], ◌∷◌, ◌++◌, pos, ◌-ℤ◌}

@@ -1,11 +1,11 @@
 -- What is read of the parts of a text, from a cursor on, and what is answered.
---   limits level n           == the largest numbers of a line of n numbers whose level stands at place `level`;  limit_at: at place i
---   behind_at n i             == the byte behind the number at place i of a line of n
---   Room d n v               == an array of 64 places that holds d from place n on
---   RowRead t at n part r    == the row r has the n numbers that the scan of `part` reads, and nothing in the room
---   JobsRead t at n r        == the section r has the n jobs that the scan reads, and nothing in the room
+--   limits level n             == the largest numbers of a line of n numbers whose level stands at place `level`;  limit_at: at place i
+--   behind_at n i              == the byte behind the number at place i of a line of n
+--   Room d n v                 == an array of 64 places that holds d from place n on
+--   RowRead t at n part r      == the row r has the n numbers that the scan of `part` reads, and nothing in the room
+--   JobsRead t at n r          == the section r has the n jobs that the scan reads, and nothing in the room
 --   last_order, both_orders    == the form of what is left behind the LO order, and behind the jobs
---   answer_at t at f          == the reader's answer to the text t, where from the cursor on it is to be of the form f
+--   answer_at t at f           == the reader's answer to the text t, where from the cursor on it is to be of the form f
 use Rattle.std.specs.Prelude.{ℕ, suc, zero, ◌+◌, ◌-◌, ◌≤◌, ◌≡◌, cond, List, [], ◌∷◌, eqb, ltb, length, take, drop, replicate}
 use Rattle.model.specs.declared.Job.{Job}
 use Rattle.model.specs.declared.Reading.{Reading}

@@ -1,7 +1,7 @@
 -- From what the writers put to the answers of the model.
---   fit_answer_lem, unfit_answer_lem      == the pages of a fit set and of an unfit one
---   found-good                    == a set with a verdict passes the checks;  fit_worsts: beside a fit one stand its worst finishes
---   refused-, fit-, unfit_judged  == the answer to a set that was read, by its judgement
+--   fit_answer_lem, unfit_answer_lem  == the pages of a fit set and of an unfit one
+--   found-good                        == a set with a verdict passes the checks;  fit_worsts: beside a fit one stand its worst finishes
+--   refused-, fit-, unfit_judged      == the answer to a set that was read, by its judgement
 --   refused-printed, judged-printed   == the answer to what was read of a text
 -- Assumes nothing.
 use Prim.Native.Nat.{ℕ}

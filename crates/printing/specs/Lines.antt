@@ -1,8 +1,8 @@
 -- What is left to print, in the two loops.
 --   job_lines v l      == the lines of the jobs l of the view v
 --   times_left c i n   == the running times c of the jobs behind the i-th of n, and the LF
-use Rattle.std.specs.Prelude.{ℕ, ◌+◌, ◌-◌}
-use mathlib.Core.List.{List, map, flat_map}
+use Rattle.std.specs.Prelude.{ℕ, ◌+◌, ◌-◌, List, map}
+use mathlib.Core.List.{flat_map}
 use Rattle.model.specs.Lists.{at, from}
 use Rattle.model.specs.Sets.{View}
 use Rattle.model.specs.Scenarios.{worst}

@@ -1,6 +1,6 @@
 -- An answer of the reader.
 --   answer n p s  == refusal n with the place p, and the set s
---   refused_at p   == refusal 1 with the place p: "a set read .. come[s] back all 0"
+--   refused_at p  == refusal 1 with the place p: "a set read .. come[s] back all 0"
 use Rattle.std.specs.Prelude.{ℕ}
 use Rattle.model.specs.declared.Reading.{Reading}
 use Rattle.model.specs.declared.Set.{Set}

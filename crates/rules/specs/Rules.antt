@@ -1,9 +1,9 @@
 -- The rules of refusals 3, 4, 6 and 7, one job at a time.
---   untimely j       == the deadline is not after the arrival
---   unbudgeted j     == the budgets break their rule
---   breaks n j       == the job breaks the rule of refusal n: 3 TIME, else 4 BUDGET;  breaks_at n s j: job j of the set does
+--   untimely j        == the deadline is not after the arrival
+--   unbudgeted j      == the budgets break their rule
+--   breaks n j        == the job breaks the rule of refusal n: 3 TIME, else 4 BUDGET;  breaks_at n s j: job j of the set does
 --   may_stand v m j   == number j may stand in the order of mode m
---   marked ok j      == number j has a mark in ok, and it is true
+--   marked ok j       == number j has a mark in ok, and it is true
 use Rattle.std.specs.Prelude.{ℕ, Bool, false, cond, not, ◌&&◌, ◌||◌, List, eqb, leb, ltb}
 use Rattle.model.specs.declared.Job.{Job}
 use Rattle.model.specs.declared.Level.{Level}

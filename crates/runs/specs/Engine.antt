@@ -1,8 +1,8 @@
 -- A run over the columns of a set, slot by slot.
---   any_overrun      == rule 1 over the columns
+--   any_overrun     == rule 1 over the columns
 --   switched, noted, accounted   == the switch, the finishes and the progress after a slot
 --   next p c t g    == a run's progress after slot t;  progress_at p n c t: at instant t, from start_of n c
---   run_of v c       == what a run that is not refused answers: the finishes, and the switch
+--   run_of v c      == what a run that is not refused answers: the finishes, and the switch
 --   Accountable, Steppable, Runnable   == what the account of a slot, a step and a whole run ask for
 use Rattle.std.specs.Prelude.{ℕ, zero, suc, ◌-◌, ◌≤◌, ◌<◌, ◌≡◌, Bool, true, false, cond, not, ◌&&◌, ◌||◌, List, map, eqb, leb, length, set, replicate}
 use Rattle.model.specs.declared.Level.{Level}

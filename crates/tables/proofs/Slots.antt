@@ -3,7 +3,7 @@
 --   Left, left-..     == the first that passes a test, an entry at a time
 --   counted-..        == one slot more for a job
 --   counts            == after t slots the places are still 64, and none has had more than t
---   lo_had v t         == the slots had before t in the LO table;  lo-read: its slot t, read from what a maker left
+--   lo_had v t        == the slots had before t in the LO table;  lo-read: its slot t, read from what a maker left
 --   hi_pick_is        == the first enabled job over the columns is the HI table's slot
 -- Assumes nothing.
 use Prim.Native.Nat.{ℕ, zero, suc, ◌+◌, ◌-◌, ◌≤◌, ◌<◌}

@@ -1,6 +1,6 @@
 -- The slots of the HI table over lent lists.
 --   enabled_in, chosen   == rules (a), (b), (c) for a job, by the lists that hold its numbers; the first of an order that is enabled, 0 for none
---   counted l j         == one slot more for job j; nothing for 0
+--   counted l j          == one slot more for job j; nothing for 0
 use Rattle.std.specs.Prelude.{ℕ, Bool, cond, List, eqb}
 use Rattle.model.specs.Lists.{at, first}
 use Rattle.model.specs.Runs.{bump}

@@ -2,7 +2,7 @@
 --   total_sub                    == where all entries of a list stand in another, its sum is no larger
 --   same_length                  == two with the same entries are equally long
 --   map_e, map-distinct          == an entry of a list renumbered; renumbered one-to-one, none repeats
---   get_or-mem, get_or_one           == what stands at a place is an entry, and stands at no other
+--   get_or-mem, get_or_one       == what stands at a place is an entry, and stands at no other
 --   weaker_one, weaker_span      == the embedding is one-to-one; the span is no larger
 -- Assumes nothing.
 use Prim.Native.Nat.{ℕ, zero, suc, ◌+◌, ◌≤◌, ◌<◌}

@@ -1,5 +1,5 @@
 -- Words on signed numbers.
---   negative z   == z is below 0
+--   negative z     == z is below 0
 --   IsSigned a b z == z lies between -a and b
 use Rattle.std.specs.Prelude.{ℕ, ◌≤◌, ◌<◌, Bool, true, false, ℤ, pos, negsuc}
 

@@ -1,9 +1,9 @@
 -- A set with some jobs left out and the numbers closed up, where `keep` says which jobs stay.
---   kept keep s         == the jobs of s that stay, by the numbers that they have in s, rising
+--   kept keep s          == the jobs of s that stay, by the numbers that they have in s, rising
 --   old_number keep s i  == the number in s of the i-th job that stays
 --   new_number keep j    == the number of job j among those that stay: how many of 1 to j stay
---   closed keep l       == the order l with those that go left out, and the others by their new numbers
---   without keep s      == the set s with only the jobs that stay
+--   closed keep l        == the order l with those that go left out, and the others by their new numbers
+--   without keep s       == the set s with only the jobs that stay
 use Rattle.std.specs.Prelude.{ℕ, Bool, List, map, length}
 use Rattle.model.specs.declared.Level.TheVariants.{Lo, Hi}
 use Rattle.model.specs.declared.Set.{Set}

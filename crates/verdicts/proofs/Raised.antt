@@ -1,7 +1,7 @@
 -- The running times of scenario x, from the finishes of scenario 0: of two HI jobs, one is done at the other's turn exactly if it does not
 -- end after it.
 --   end-turn                 == what scenario 0 marks of a HI job is its turn
---   time_in k x j             == the time of job j in scenario x;  raised_test: when it is raised, by the columns and the finishes
+--   time_in k x j            == the time of job j in scenario x;  raised_test: when it is raised, by the columns and the finishes
 --   times-lo                 == scenario 0 has the LO budgets
 --   times_more, times-hi     == a turn of the loop over the jobs; after it
 -- Assumes nothing.

@@ -2,10 +2,10 @@
 --   rows_to v x        == the rows before row x, and nothing in the others
 --   rows_start, rows-set, rows-turn, rows_keep, rows_end   == a turn of the loop over the rows
 --   worst_to v x j     == job j's worst finish over the rows before row x
---   raise-..          == the loop that raises the worst finishes by one more run
---   places_same       == two fillings are equal that agree at the jobs
---   worsts-..         == the loop over the HI scenarios: before it, a turn with a run and one without, and after it
---   margins-..        == the loop over the jobs' margins
+--   raise-..           == the loop that raises the worst finishes by one more run
+--   places_same        == two fillings are equal that agree at the jobs
+--   worsts-..          == the loop over the HI scenarios: before it, a turn with a run and one without, and after it
+--   margins-..         == the loop over the jobs' margins
 -- Assumes nothing.
 use Prim.Native.Nat.{ℕ, zero, suc, ◌+◌, ◌-◌, ◌≤◌, ◌<◌, max}
 use mathlib.Core.Path.{◌≡◌, refl, sym, ◌∙◌, ap, subst}

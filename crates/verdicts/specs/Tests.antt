@@ -1,10 +1,10 @@
 -- The scenarios by number, and what the search over them finds.
---   numbered x          == scenario x: 0 is LO, and j is HI of job j
---   plays v x           == x is a scenario of the set
---   Playable k x ends   == x is a scenario of the set with columns k, and ends are the finishes of scenario 0
+--   numbered x           == scenario x: 0 is LO, and j is HI of job j
+--   plays v x            == x is a scenario of the set
+--   Playable k x ends    == x is a scenario of the set with columns k, and ends are the finishes of scenario 0
 --   fit_with w           == the fit answer, with the worst finishes w
 --   unfit_in x job f c   == the unfit answer: job + 1, its finish f, in scenario x with times c
---   found v             == the verdict found, with the times and the worst finishes beside it
+--   found v              == the verdict found, with the times and the worst finishes beside it
 use Rattle.std.specs.Prelude.{ℕ, ◌+◌, ◌≡◌, Bool, true, cond, ◌||◌, List, eqb}
 use Rattle.model.specs.declared.Scenario.{Scenario}
 use Rattle.model.specs.declared.Scenario.TheVariants.{Lo, Hi}

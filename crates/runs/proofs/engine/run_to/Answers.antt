@@ -33,14 +33,8 @@ pub step-g-requires : goal.step-g-requires
 step-g-requires c = let p = c.requires in
     can_step _ _ _ _ c.loop-t.invariant.1 p.0.full p.0.times (omega (arith, p.1, p.0.sound.bounded))
 
-pub overflow_add-t : goal.overflow_add-t
-overflow_add-t c = omega (arith)
-
-pub loop-t-smaller : goal.loop-t-smaller
-loop-t-smaller c = omega (arith)
-
 pub loop-t-preserved : goal.loop-t-preserved
-loop-t-preserved c = (omega (arith), run-next _ _ _ _ c.loop-t.invariant.1 _ c.step-g.ensures)
+loop-t-preserved c = (omega arith, run-next _ _ _ _ c.loop-t.invariant.1 _ c.step-g.ensures)
 
 pub returns : goal.returns
 returns c = run_end _ _ _ _ c.loop-t.invariant.1 _ c.requires c.loop-t-test.false c.loop-t.invariant.0
