@@ -1,7 +1,7 @@
 // The answers that have words: refusals, verdicts, runs and picks.
 use crate::values::numbers;
 use crate::words::{bytes, entry, number};
-use model::{Judged, Judgement, Miss, Pick, Ran, Refusal, Scenario, Switch, Verdict};
+use model::{Judged, Miss, Ran, Refusal, Scenario, Verdict};
 use std::io;
 use std::io::Write;
 
@@ -43,10 +43,10 @@ fn verdict<W: Write>(out: &mut W, v: Verdict) -> io::Result<()> {
 }
 
 // A judgement.
-fn judgement<W: Write>(out: &mut W, x: Judgement) -> io::Result<()> {
+fn judgement<W: Write>(out: &mut W, x: Result<Verdict, Refusal>) -> io::Result<()> {
     match x {
-        Judgement::Refused(r) => refusal(out, r),
-        Judgement::Found(v) => verdict(out, v),
+        Err(r) => refusal(out, r),
+        Ok(v) => verdict(out, v),
     }
 }
 
@@ -60,11 +60,11 @@ pub fn judged<W: Write>(out: &mut W, x: Judged, n: usize) -> io::Result<()> {
 }
 
 // The instant of a switch, or never.
-fn switch<W: Write>(out: &mut W, x: Switch) -> io::Result<()> {
+fn switch<W: Write>(out: &mut W, x: Option<u16>) -> io::Result<()> {
     bytes(out, b" switch")?;
     match x {
-        Switch::Never => bytes(out, b" never"),
-        Switch::At(t) => entry(out, t),
+        None => bytes(out, b" never"),
+        Some(t) => entry(out, t),
     }
 }
 
@@ -80,10 +80,10 @@ pub fn ran<W: Write>(out: &mut W, x: Ran, n: usize) -> io::Result<()> {
 }
 
 // Who gets a slot.
-pub fn pick<W: Write>(out: &mut W, x: Pick) -> io::Result<()> {
+pub fn pick<W: Write>(out: &mut W, x: Option<u16>) -> io::Result<()> {
     bytes(out, b" gets")?;
     match x {
-        Pick::Idle => bytes(out, b" idle"),
-        Pick::Job(j) => entry(out, j),
+        None => bytes(out, b" idle"),
+        Some(j) => entry(out, j),
     }
 }

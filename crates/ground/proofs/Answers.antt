@@ -4,6 +4,7 @@
 --   unfit_misses    == of an unfit set some run misses what it requires;  misses_unfit: and then it is unfit
 --   run-good        == a run of a set that passes is not refused: the finishes are those of the run
 -- Assumes nothing.
+use Rattle.std.specs.Prelude.{Err as Refused, Ok as Found, Result}
 use Prim.Native.Nat.{ℕ}
 use mathlib.Core.Path.{◌≡◌, refl, sym, ◌∙◌, ap}
 use mathlib.Core.Bool.{Bool, true, false, not}
@@ -12,8 +13,6 @@ use borrow.Author.Tests.{le-leb}
 use Rattle.model.specs.declared.Set.{Set}
 use Rattle.model.specs.declared.Refusal.{Refusal}
 use Rattle.model.specs.declared.Judged.{Judged}
-use Rattle.model.specs.declared.Judgement.{Judgement}
-use Rattle.model.specs.declared.Judgement.TheVariants.{Refused, Found}
 use Rattle.model.specs.declared.Miss.{Miss}
 use Rattle.model.specs.declared.Verdict.{Verdict}
 use Rattle.model.specs.declared.Verdict.TheVariants.{Fit, Unfit}
@@ -41,15 +40,15 @@ good_passes s h = good-first (checks (view s)) h
 
 -- the judgement -----------------------------------------------------------------------------------------------------------------------
 
-is_found : Judgement → Bool
+is_found : Result Verdict Refusal → Bool
 is_found (Refused r) = false
 is_found (Found x) = true
 
-found_of : Verdict → Judgement → Verdict
+found_of : Verdict → Result Verdict Refusal → Verdict
 found_of y (Refused r) = y
 found_of y (Found x) = x
 
-judgement_of : Judged → Judgement
+judgement_of : Judged → Result Verdict Refusal
 judgement_of r = r.judgement
 
 -- of a set that passes the judgement is its verdict

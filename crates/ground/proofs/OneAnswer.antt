@@ -4,14 +4,13 @@
 --   one     == two values that are equal to a third are equal
 --   FN-one  == the promise of the function FN admits one answer
 -- Assumes nothing.
+use Rattle.std.specs.Prelude.{Option}
 use Prim.Native.Nat.{ℕ}
 use mathlib.Core.Path.{◌≡◌, sym, ◌∙◌}
 use mathlib.Core.Bool.{Bool}
 use mathlib.Core.List.{List}
 use lib.IntN.{ℤ}
 use Rattle.model.specs.declared.Set.{Set}
-use Rattle.model.specs.declared.Pick.{Pick}
-use Rattle.model.specs.declared.Switch.{Switch}
 use Rattle.model.specs.declared.Refusal.{Refusal}
 use Rattle.model.specs.declared.Ran.{Ran}
 use Rattle.model.specs.declared.Judged.{Judged}
@@ -40,7 +39,7 @@ columns_of_one s x y p q = one p q
 -- verdicts, runs, picks and parts ----------------------------------------------------------------------------------------------------
 
 -- Who is picked, from what the three lent slices hold: a job, or idle.
-pub pick_one : (o a : List ℕ) (d : List Bool) (t : ℕ) (x y : Pick) → Picks o a d t x → Picks o a d t y → x ≡ y
+pub pick_one : (o a : List ℕ) (d : List Bool) (t : ℕ) (x y : Option ℕ) → Picks o a d t x → Picks o a d t y → x ≡ y
 pick_one o a d t x y p q = one p.4 q.4
 
 -- The judgement, and the times beside it.
@@ -103,7 +102,7 @@ pub is_enabled_one : (h l lo hi : ℕ) (r x y : Bool) → IsEnabled h l lo hi r 
 is_enabled_one h l lo hi r x y p q = one p q
 
 -- Whether a finish misses a deadline.
-pub misses_one : (h : Bool) (d f : ℕ) (w : Switch) (x y : Bool) → Misses h d f w x → Misses h d f w y → x ≡ y
+pub misses_one : (h : Bool) (d f : ℕ) (w : Option ℕ) (x y : Bool) → Misses h d f w x → Misses h d f w y → x ≡ y
 misses_one h d f w x y p q = one p q
 
 -- The worse of two finishes, and the margin.

@@ -8,15 +8,13 @@
 --   InRange, Outruns, IsEnabled, Misses, Worse, MarginOf   == those of the measures, from the numbers that each is given
 --   Slots s c l x after   == `slots`, with the running times c, lent room that holds l: it answers x, and the room holds `after`
 --   MakesTables s lo hi x lo_after hi_after   == `make_tables`, lent room that holds lo and hi: it answers x, and the room holds lo_after and hi_after
-use Rattle.std.specs.Prelude.{ℕ, Bool, List, ℤ}
+use Rattle.std.specs.Prelude.{ℕ, Bool, List, ℤ, Option}
 use Rattle.std.specs.Borrow.{GName, Bor, MutBor}
 use contract.Lifetimes.{Lfts}
 use Rattle.model.specs.declared.Level.{Level}
 use Rattle.model.specs.declared.Job.{Job}
 use Rattle.model.specs.declared.Order.{Order}
 use Rattle.model.specs.declared.Set.{Set}
-use Rattle.model.specs.declared.Pick.{Pick}
-use Rattle.model.specs.declared.Switch.{Switch}
 use Rattle.model.specs.declared.Refusal.{Refusal}
 use Rattle.model.specs.declared.Ran.{Ran}
 use Rattle.model.specs.declared.Judged.{Judged}
@@ -99,7 +97,7 @@ Outruns h n lo d x = outruns tt (h, (n, (lo, (d, tt)))) x (h, (n, (lo, (d, tt)))
 abbrev pub IsEnabled : ℕ → ℕ → ℕ → ℕ → Bool → Bool → Type 0
 IsEnabled h l lo hi r x = is_enabled tt (h, (l, (lo, (hi, (r, tt))))) x (h, (l, (lo, (hi, (r, tt)))))
 
-abbrev pub Misses : Bool → ℕ → ℕ → Switch → Bool → Type 0
+abbrev pub Misses : Bool → ℕ → ℕ → Option ℕ → Bool → Type 0
 Misses h d f w x = misses tt (h, (d, (f, (w, tt)))) x (h, (d, (f, (w, tt))))
 
 abbrev pub Worse : Bool → ℕ → ℕ → ℕ → Type 0
@@ -120,7 +118,7 @@ abbrev pub room : {A : Type 0} → Spot → List A → MutBor (List A)
 room p l = record { ref_ptr = p.0; ghost_name = p.1; now = l }
 
 -- Wherever the slices stand, and however long they are lent.
-abbrev pub Picks : List ℕ → List ℕ → List Bool → ℕ → Pick → Type 0
+abbrev pub Picks : List ℕ → List ℕ → List Bool → ℕ → Option ℕ → Type 0
 Picks o a d t x =
     (κs : Lfts 3) × (p q r : Spot) ×
     pick κs (slice p o, (slice q a, (slice r d, (t, tt)))) x (slice p o, (slice q a, (slice r d, (t, tt))))

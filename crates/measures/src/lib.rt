@@ -5,8 +5,6 @@
 ghost use Rattle.std.specs.Prelude.{◌≡◌, cond, not, ◌&&◌, max, eqb, leb, pos, ◌-ℤ◌};
 ghost use Rattle.measures.specs.Measures.{missed_by, enabled_by};
 
-use model::Switch;
-
 // Whether a time lies in its range: 1 to the LO budget for a LO job, 1 to the HI budget for a HI job.
 pub fn in_range(critical: bool, lo: u16, hi: u16, time: u16) -> bool
     ensures { result ≡ (leb 1 time && leb time (cond critical hi lo)) }
@@ -48,12 +46,12 @@ pub fn is_enabled(h: u16, l: u16, lo: u16, hi: u16, runs: bool) -> bool
 }
 
 // Whether a finish misses a deadline that the run requires.
-pub fn misses(critical: bool, deadline: u16, finish: u16, switch: Switch) -> bool
+pub fn misses(critical: bool, deadline: u16, finish: u16, switch: Option<u16>) -> bool
     ensures { result ≡ missed_by critical deadline finish switch }
 {
     match switch {
-        Switch::Never => deadline < finish,
-        Switch::At(_) => { if critical { deadline < finish } else { false } }
+        None => deadline < finish,
+        Some(_) => { if critical { deadline < finish } else { false } }
     }
 }
 

@@ -2,7 +2,7 @@
 #![tactic(auto)]
 
 // A job's level of criticality. The mode of a run is one of the same two.
-#[derive(Clone, Copy)]
+#[derive(Clone, Copy, PartialEq, Eq)]
 pub enum Level {
     Lo,
     Hi,
@@ -78,26 +78,12 @@ pub struct State {
     pub done: [bool; 64],
 }
 
-// Who gets a slot: a job, or nobody.
-#[derive(Clone, Copy)]
-pub enum Pick {
-    Job(u16),
-    Idle,
-}
-
-// The instant of a run's switch, if there is one.
-#[derive(Clone, Copy)]
-pub enum Switch {
-    Never,
-    At(u16),
-}
-
-// The answer of one given run: each job's finish, 0 for a dropped one, and the switch.
+// The answer of one given run: each job's finish, 0 for a dropped one, and the instant of the switch, if there is one.
 #[derive(Clone, Copy)]
 pub struct Ran {
     pub refusal: Refusal,
     pub finishes: [u16; 64],
-    pub switch: Switch,
+    pub switch: Option<u16>,
 }
 
 // A scenario of the published test: LO, or HI of a job.
@@ -121,16 +107,10 @@ pub enum Verdict {
     Unfit(Miss),
 }
 
-#[derive(Clone, Copy)]
-pub enum Judgement {
-    Refused(Refusal),
-    Found(Verdict),
-}
-
-// A judgement, and beside it the running times of the failing scenario, all 0 where there is none.
+// A judgement, which is the verdict found or the refusal, and beside it the running times of the failing scenario, all 0 where there is none.
 #[derive(Clone, Copy)]
 pub struct Judged {
-    pub judgement: Judgement,
+    pub judgement: Result<Verdict, Refusal>,
     pub times: [u16; 64],
 }
 

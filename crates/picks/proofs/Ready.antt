@@ -1,5 +1,6 @@
 -- When a number names a job that is ready, over lent lists.
 -- Assumes nothing.
+use Rattle.std.specs.Prelude.{Some as Job, None as Idle}
 use Prim.Native.Nat.{ℕ, suc, ◌+◌, ◌-◌, ◌≤◌, ◌<◌}
 use mathlib.Core.Path.{◌≡◌, refl, ◌∙◌, ap}
 use mathlib.Core.Bool.{Bool, true, false, not, ◌&&◌}
@@ -10,7 +11,6 @@ use lib.Dec.{leb}
 use lib.ListN.{length, get_or, drop, drop_of_length-le}
 use lib.Seq.{drop-cons}
 use borrow.Author.Tests.{le-leb, lt-leb, ne_eqb, not-true}
-use Rattle.model.specs.declared.Pick.TheVariants.{Job, Idle}
 use Rattle.model.specs.Lists.{at, first}
 use Rattle.model.specs.Runs.{ready, pick}
 use Rattle.model.specs.Answers.{picked, lent_pick}

@@ -6,8 +6,6 @@ ghost use Rattle.model.specs.Lists.{at};
 ghost use Rattle.model.specs.Runs.{ready};
 ghost use Rattle.model.specs.Answers.{lent_pick};
 
-use model::Pick;
-
 // Whether a number names a job that has arrived by an instant and is not done.
 fn is_ready(arrivals: &[u16], done: &[bool], t: u16, j: u16) -> bool
     ensures { result ≡ ready (λ i. at arrivals.now i (suc t)) done.now t j }
@@ -29,16 +27,16 @@ fn is_ready(arrivals: &[u16], done: &[bool], t: u16, j: u16) -> bool
 }
 
 // The first job of an order that has arrived by an instant and is not done, or idle. An entry that names no job is passed over.
-pub fn pick(order: &[u16], arrivals: &[u16], done: &[bool], t: u16) -> Pick
+pub fn pick(order: &[u16], arrivals: &[u16], done: &[bool], t: u16) -> Option<u16>
     ensures { result ≡ lent_pick order.now arrivals.now done.now t }
 {
     let mut i: usize = 0;
     while i < order.len() {
         let j = order[i];
         if is_ready(arrivals, done, t, j) {
-            return Pick::Job(j);
+            return Some(j);
         }
         i += 1;
     }
-    Pick::Idle
+    None
 }

@@ -4,6 +4,7 @@
 --   refused-, fit-, unfit_judged      == the answer to a set that was read, by its judgement
 --   refused-printed, judged-printed   == the answer to what was read of a text
 -- Assumes nothing.
+use Rattle.std.specs.Prelude.{Err as Refused, Ok as Found}
 use Prim.Native.Nat.{ℕ}
 use mathlib.Core.Path.{◌≡◌, refl, sym, ◌∙◌, ap}
 use mathlib.Core.Bool.{true}
@@ -17,7 +18,6 @@ use Rattle.model.specs.declared.Miss.{Miss}
 use Rattle.model.specs.declared.Verdict.{Verdict}
 use Rattle.model.specs.declared.Verdict.TheVariants.{Fit, Unfit}
 use Rattle.model.specs.declared.Assessed.{Assessed}
-use Rattle.model.specs.declared.Judgement.TheVariants.{Refused, Found}
 use Rattle.model.specs.Lists.{at, from}
 use Rattle.model.specs.Sets.{View, view, members, span}
 use Rattle.model.specs.Refusals.{is_good, refusal}

@@ -13,7 +13,7 @@ mod lines;
 
 use analysis::assess;
 use lines::{fit_page, unfit_page};
-use model::{GOOD, Judgement, Reading, Set, Verdict};
+use model::{GOOD, Reading, Set, Verdict};
 use pages::Page;
 use pages::lines::refused_page;
 use plan_text::read;
@@ -28,8 +28,8 @@ fn judged_page(s: Set) -> Page
     let times = j.times;
     let worsts = a.worsts;
     match judgement {
-        Judgement::Refused(refusal) => refused_page(refusal),
-        Judgement::Found(verdict) => match verdict {
+        Err(refusal) => refused_page(refusal),
+        Ok(verdict) => match verdict {
             Verdict::Fit => fit_page(s, worsts),
             Verdict::Unfit(miss) => unfit_page(s, miss, times),
         },

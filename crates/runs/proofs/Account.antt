@@ -4,6 +4,7 @@
 --   onward         == the progress after a slot of a job
 --   account_idle, account-ends, account_goes_on   == the progress after a slot of nobody, of a job that ends with it, of one that does not
 -- Assumes nothing.
+use Rattle.std.specs.Prelude.{None as Never, Some as At, Option, Some as Job, None as Idle}
 use Prim.Native.Nat.{ℕ, suc, ◌+◌, ◌-◌, ◌<◌}
 use mathlib.Core.Path.{◌≡◌, refl, ◌∙◌}
 use mathlib.Core.Bool.{Bool, true, false, cond}
@@ -15,34 +16,30 @@ use lib.ListN.{get_or, set}
 use borrow.Author.Tests.{eq-eqb, ne_eqb}
 use Rattle.model.specs.declared.Level.{Level}
 use Rattle.model.specs.declared.Level.TheVariants.{Lo, Hi}
-use Rattle.model.specs.declared.Pick.{Pick}
-use Rattle.model.specs.declared.Pick.TheVariants.{Job, Idle}
-use Rattle.model.specs.declared.Switch.{Switch}
-use Rattle.model.specs.declared.Switch.TheVariants.{Never, At}
 use Rattle.model.specs.Lists.{at}
 use Rattle.model.specs.Runs.{time, bump, account}
 use Rattle.laws.proofs.Places.{at_in, at_set}
 use Rattle.runs.specs.declared.engine.Progress.{Progress}
 use Rattle.runs.specs.Engine.{switched, slot_of, noted, accounted, Accountable}
 
-pub kept-switch : (s : Switch) (m : Level) (t u : ℕ) → s ≡ At u → At u ≡ switched s m t
+pub kept-switch : (s : Option ℕ) (m : Level) (t u : ℕ) → s ≡ At u → At u ≡ switched s m t
 unfolding switched
 kept-switch s Lo t u e = rw e refl
 kept-switch s Hi t u e = rw e refl
 
-pub no_switch : (s : Switch) (m : Level) (t : ℕ) → s ≡ Never → m ≡ Lo → Never ≡ switched s m t
+pub no_switch : (s : Option ℕ) (m : Level) (t : ℕ) → s ≡ Never → m ≡ Lo → Never ≡ switched s m t
 unfolding switched
 no_switch s m t e f = rw (e, f) refl
 
-pub new_switch : (s : Switch) (m : Level) (t : ℕ) → s ≡ Never → m ≡ Hi → At t ≡ switched s m t
+pub new_switch : (s : Option ℕ) (m : Level) (t : ℕ) → s ≡ Never → m ≡ Hi → At t ≡ switched s m t
 unfolding switched
 new_switch s m t e f = rw (e, f) refl
 
-pub had-room : (g : Progress) (k : Pick) (c : List ℕ) (t j : ℕ) → Accountable g k c t → k ≡ Job j → get_or g.state.had (j - 1) 0 < 65535
+pub had-room : (g : Progress) (k : Option ℕ) (c : List ℕ) (t j : ℕ) → Accountable g k c t → k ≡ Job j → get_or g.state.had (j - 1) 0 < 65535
 had-room g k c t j a e = let p = a.place j e in rw (at_in g.state.had j 0 p.0) at p.2
 
 -- the progress, where job j has had one more slot, is done if b says so, and the finishes are l
-abbrev pub onward : Progress → Level → ℕ → Switch → Bool → List ℕ → Progress
+abbrev pub onward : Progress → Level → ℕ → Option ℕ → Bool → List ℕ → Progress
 onward g m j w b l =
     record {
       state =
@@ -56,7 +53,7 @@ onward g m j w b l =
       finishes = l;
     }
 
-module _ (g : Progress) (k : Pick) (m : Level) (c : List ℕ) (t : ℕ) (w : Switch) (is : w ≡ switched g.switch m t) where
+module _ (g : Progress) (k : Option ℕ) (m : Level) (c : List ℕ) (t : ℕ) (w : Option ℕ) (is : w ≡ switched g.switch m t) where
   pub account_idle : k ≡ Idle
       → ◌≡◌ {A = Progress}
       (record {

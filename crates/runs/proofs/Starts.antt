@@ -3,6 +3,7 @@
 --   start_zero, start-more   == the places filled so far, at first and after one more
 --   started         == filled up to n, it is the start
 -- Assumes nothing.
+use Rattle.std.specs.Prelude.{None as Never}
 use Prim.Native.Nat.{ℕ, ◌+◌, ◌≤◌, ◌<◌}
 use mathlib.Core.Path.{◌≡◌, refl, sym, ap}
 use mathlib.Core.Bool.{Bool, true, cond, not, ◌&&◌, ◌||◌}
@@ -12,7 +13,6 @@ use lib.Dec.{eqb, leb}
 use lib.ListN.{get_or, set, replicate}
 use borrow.Author.Tests.{le-leb}
 use Rattle.model.specs.declared.Level.TheVariants.{Lo}
-use Rattle.model.specs.declared.Switch.TheVariants.{Never}
 use Rattle.model.specs.Runs.{time}
 use Rattle.laws.proofs.Bools.{split}
 use Rattle.laws.proofs.Places.{at_suc}

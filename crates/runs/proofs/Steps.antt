@@ -4,6 +4,7 @@
 --   can_account      == whoever is picked can be accounted
 --   step-hi, step-switch, step_lo   == the step in HI mode, at the switch, and in LO mode
 -- Assumes nothing.
+use Rattle.std.specs.Prelude.{Some as Job, None as Idle, Option}
 use Prim.Native.Nat.{ℕ, suc, ◌≤◌}
 use mathlib.Core.Path.{◌≡◌, refl, sym, ◌∙◌, ap}
 use mathlib.Core.Bool.{Bool, true, false, cond, not, ◌&&◌}
@@ -14,8 +15,6 @@ use lib.ListN.{length}
 use borrow.Author.Tests.{eqb-true, eqb-false, not-true, le-leb}
 use Rattle.model.specs.declared.Level.{Level}
 use Rattle.model.specs.declared.Level.TheVariants.{Lo, Hi}
-use Rattle.model.specs.declared.Pick.{Pick}
-use Rattle.model.specs.declared.Pick.TheVariants.{Job, Idle}
 use Rattle.model.specs.declared.State.{State}
 use Rattle.model.specs.Lists.{at, numbers, any, first}
 use Rattle.model.specs.Sets.{is_hi, members, critical}
@@ -65,7 +64,7 @@ module _ (o a : List ℕ) (d : List Bool) (t : ℕ) where
       let r : f (first f o) ≡ true = (first_some f o p.1).1 in
       rw p.0 at (place d (first f o) (not-true (at d (first f o) true) (and_r (leb (at a (first f o) (suc t)) t) (not (at d (first f o) true)) r)))
 
-pub can_account : (n : ℕ) (a : List ℕ) (k : List Bool) (l c : List ℕ) (t : ℕ) (g : Progress) (o : List ℕ) (r : Pick)
+pub can_account : (n : ℕ) (a : List ℕ) (k : List Bool) (l c : List ℕ) (t : ℕ) (g : Progress) (o : List ℕ) (r : Option ℕ)
     → Steppable n a k l c t g → r ≡ lent_pick o a g.state.done t → Accountable g r c t
 can_account n a k l c t g o r s e =
     record {
@@ -107,7 +106,7 @@ module _ (n : ℕ) (a : List ℕ) (k : List Bool) (l lo hi : List ℕ) where
       (and_i (le-leb 1 r.0 (omega arith)) (le-leb r.0 n (omega arith))))
       (overruns-over s r.0 ∙ r.2))
 
-  module _ (c : List ℕ) (t : ℕ) (g : Progress) (s : Steppable n a k l c t g) (r : Pick) (x : Progress) where
+  module _ (c : List ℕ) (t : ℕ) (g : Progress) (s : Steppable n a k l c t g) (r : Option ℕ) (x : Progress) where
     stepped : (m : Level) → mode_now (listed n a k l lo hi) g.state ≡ m → r ≡ lent_pick (by_mode lo hi m) a g.state.done t
         → x ≡ accounted c t (slot_of r) m g → x ≡ next (listed n a k l lo hi) c t g
     unfolding next slot_now listed

@@ -4,15 +4,11 @@
 --   next p c t g    == a run's progress after slot t;  progress_at p n c t: at instant t, from start_of n c
 --   run_of v c      == what a run that is not refused answers: the finishes, and the switch
 --   Accountable, Steppable, Runnable   == what the account of a slot, a step and a whole run ask for
-use Rattle.std.specs.Prelude.{ℕ, zero, suc, ◌-◌, ◌≤◌, ◌<◌, ◌≡◌, Bool, true, false, cond, not, ◌&&◌, ◌||◌, List, map, eqb, leb, length, set, replicate}
+use Rattle.std.specs.Prelude.{ℕ, zero, suc, ◌-◌, ◌≤◌, ◌<◌, ◌≡◌, Bool, true, false, cond, not, ◌&&◌, ◌||◌, List, map, eqb, leb, length, set, replicate, None as Never, Some as At, Option, Some as Job, None as Idle}
 use Rattle.model.specs.declared.Level.{Level}
 use Rattle.model.specs.declared.Level.TheVariants.{Lo, Hi}
-use Rattle.model.specs.declared.Pick.{Pick}
-use Rattle.model.specs.declared.Pick.TheVariants.{Job, Idle}
 use Rattle.model.specs.declared.Ran.{Ran}
 use Rattle.model.specs.declared.State.{State}
-use Rattle.model.specs.declared.Switch.{Switch}
-use Rattle.model.specs.declared.Switch.TheVariants.{Never, At}
 use Rattle.model.specs.Lists.{at, any, numbers}
 use Rattle.model.specs.Sets.{Policy, View}
 use Rattle.model.specs.Runs.{time, mode_now, account, slot_now, mark, outcome_in, switch_in}
@@ -30,12 +26,12 @@ any_overrun n critical lo had done =
     any (λ j. at critical j false && (eqb (at had j 0) (at lo j 0) && not (at done j true))) (numbers n)
 
 -- the number of a pick
-unfoldable pub slot_of : Pick → ℕ
+unfoldable pub slot_of : Option ℕ → ℕ
 slot_of (Job j) = j
 slot_of Idle = 0
 
 -- a pick that can be accounted: a place whose slots had can still grow
-pub record Accountable (g : Progress) (k : Pick) (c : List ℕ) (t : ℕ) : Type 0 where
+pub record Accountable (g : Progress) (k : Option ℕ) (c : List ℕ) (t : ℕ) : Type 0 where
   pub had : length g.state.had ≡ 64
   pub done : length g.state.done ≡ 64
   pub finishes : length g.finishes ≡ 64
@@ -44,7 +40,7 @@ pub record Accountable (g : Progress) (k : Pick) (c : List ℕ) (t : ℕ) : Type
   pub place : (j : ℕ) → k ≡ Job j → (1 ≤ j) × (j ≤ 64) × (at g.state.had j 0 < 65535)
 
 -- the switch, where the mode at instant t is m
-unfoldable pub switched : Switch → Level → ℕ → Switch
+unfoldable pub switched : Option ℕ → Level → ℕ → Option ℕ
 switched Never Lo t = Never
 switched Never Hi t = At t
 switched (At u) Lo t = At u

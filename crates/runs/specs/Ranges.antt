@@ -1,10 +1,9 @@
 -- Running times out of their range, and the answer of a run that is refused.
 --   outside v c  == the lowest job whose time in c lies outside its range; 0 where there is none
 --   not_run r    == the answer of a run refused by r
-use Rattle.std.specs.Prelude.{ℕ, not, List}
+use Rattle.std.specs.Prelude.{ℕ, not, List, None as Never}
 use Rattle.model.specs.declared.Ran.{Ran}
 use Rattle.model.specs.declared.Refusal.{Refusal}
-use Rattle.model.specs.declared.Switch.TheVariants.{Never}
 use Rattle.model.specs.Lists.{first}
 use Rattle.model.specs.Sets.{View, members}
 use Rattle.model.specs.Runs.{in_range}

@@ -6,7 +6,7 @@ ghost use Rattle.runs.specs.Engine.{any_overrun, slot_of, Accountable, switched,
 
 use columns::Columns;
 use measures::outruns;
-use model::{GOOD, Level, Pick, Ran, Refusal, State, Switch};
+use model::{GOOD, Level, Ran, Refusal, State};
 use picks::pick;
 
 // How far a run has come: its state, who got the last slot, the switch so far, and the finishes so far, 0 where there is none.
@@ -14,7 +14,7 @@ use picks::pick;
 pub struct Progress {
     pub state: State,
     pub slot: u16,
-    pub switch: Switch,
+    pub switch: Option<u16>,
     pub finishes: [u16; 64],
 }
 
@@ -34,20 +34,20 @@ fn overrun(n: usize, critical: &[bool], lo: &[u16], had: &[u16], done: &[bool]) 
 }
 
 // The switch, where the mode at instant t is the one given.
-fn switched_at(switch: Switch, mode: Level, t: u16) -> Switch
+fn switched_at(switch: Option<u16>, mode: Level, t: u16) -> Option<u16>
     ensures { result ≡ switched switch mode t }
 {
     match switch {
-        Switch::At(u) => Switch::At(u),
-        Switch::Never => match mode {
-            Level::Lo => Switch::Never,
-            Level::Hi => Switch::At(t),
+        Some(u) => Some(u),
+        None => match mode {
+            Level::Lo => None,
+            Level::Hi => Some(t),
         },
     }
 }
 
 // The progress after slot t of the job picked, in the mode given.
-fn account(g: Progress, k: Pick, mode: Level, times: &[u16], t: u16) -> Progress
+fn account(g: Progress, k: Option<u16>, mode: Level, times: &[u16], t: u16) -> Progress
     requires { Accountable g k times.now t }
     ensures { result ≡ accounted times.now t (slot_of k) mode g }
 {
@@ -58,13 +58,13 @@ fn account(g: Progress, k: Pick, mode: Level, times: &[u16], t: u16) -> Progress
     let before = g.switch;
     let switch = switched_at(before, mode, t);
     match k {
-        Pick::Idle => Progress {
+        None => Progress {
             state: State { mode, had, done },
             slot: 0,
             switch,
             finishes,
         },
-        Pick::Job(j) => {
+        Some(j) => {
             let i = j as usize - 1;
             let h = had[i] + 1;
             had[i] = h;
@@ -133,7 +133,7 @@ pub fn start(n: usize, times: &[u16]) -> Progress
             done,
         },
         slot: 0,
-        switch: Switch::Never,
+        switch: None,
         finishes: [0u16; 64],
     }
 }

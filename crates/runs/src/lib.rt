@@ -14,7 +14,7 @@ mod table;
 use checks::{refusal_of, span_of};
 use columns::columns_of;
 use engine::run_to;
-use model::{GOOD, ROOM, RUN, Ran, Refusal, Set, Switch};
+use model::{GOOD, ROOM, RUN, Ran, Refusal, Set};
 use range::out_of_range;
 use table::fill;
 
@@ -33,7 +33,7 @@ fn not_run(refusal: Refusal) -> Ran
     Ran {
         refusal,
         finishes: [0u16; 64],
-        switch: Switch::Never,
+        switch: None,
     }
 }
 

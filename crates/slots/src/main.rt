@@ -14,7 +14,7 @@ use checks::span_of;
 use columns::columns_of;
 use input::{text_in, times_in};
 use input_bytes::read_full;
-use model::{GOOD, Refusal, Set, Switch};
+use model::{GOOD, Refusal, Set};
 use plan_text::read;
 use std::io;
 use std::io::Write;
@@ -75,11 +75,11 @@ fn line<W: Write>(out: &mut W, word: &[u8], values: &[u16], n: usize) -> io::Res
 }
 
 // The line of the switch.
-fn switch_line<W: Write>(out: &mut W, x: Switch) -> io::Result<()> {
+fn switch_line<W: Write>(out: &mut W, x: Option<u16>) -> io::Result<()> {
     bytes(out, b"switch")?;
     match x {
-        Switch::Never => bytes(out, b" never")?,
-        Switch::At(t) => number(out, t as u64)?,
+        None => bytes(out, b" never")?,
+        Some(t) => number(out, t as u64)?,
     }
     bytes(out, b"\n")
 }

@@ -1,6 +1,7 @@
 -- From a set that is refused, or that passes, to the model's answers.
 --   refused-.., found-..   == the answer where the set is refused, and where it passes
 -- Assumes nothing.
+use Rattle.std.specs.Prelude.{Err as Refused}
 use Prim.Native.Nat.{ℕ}
 use mathlib.Core.Path.{◌≡◌, refl, sym, ◌∙◌, ap}
 use mathlib.Core.List.{List}
@@ -9,7 +10,6 @@ use lib.ListN.{replicate}
 use Rattle.model.specs.declared.Set.{Set}
 use Rattle.model.specs.declared.Refusal.{Refusal}
 use Rattle.model.specs.declared.Assessed.{Assessed}
-use Rattle.model.specs.declared.Judgement.TheVariants.{Refused}
 use Rattle.model.specs.Sets.{View, view}
 use Rattle.model.specs.Scenarios.{places, zeros, rows, worst}
 use Rattle.model.specs.Refusals.{refusal}

@@ -5,6 +5,7 @@
 --   missed_is      == what the code tests of a job is the model's test
 --   late-none, late_is   == no job is late where required; the job found is the lowest that is
 -- Assumes nothing.
+use Rattle.std.specs.Prelude.{None as Never, Some as At, Option}
 use Prim.Native.Nat.{ℕ, zero, suc, ◌+◌, ◌-◌, ◌≤◌, ◌<◌}
 use mathlib.Core.Path.{◌≡◌, refl, sym, ◌∙◌, ap, subst}
 use mathlib.Core.Bool.{Bool, true, false, cond, ◌&&◌, ◌||◌}
@@ -16,8 +17,6 @@ use lib.ListN.{get_or}
 use borrow.Author.Tests.{eq-eqb, ne_eqb, eqb-true, eqb-false}
 use Rattle.model.specs.declared.Ran.{Ran}
 use Rattle.model.specs.declared.Scenario.TheVariants.{Lo, Hi}
-use Rattle.model.specs.declared.Switch.{Switch}
-use Rattle.model.specs.declared.Switch.TheVariants.{Never, At}
 use Rattle.model.specs.declared.Miss.{Miss}
 use Rattle.model.specs.declared.Scenario.{Scenario}
 use Rattle.model.specs.declared.Verdict.{Verdict}
@@ -130,7 +129,7 @@ module _ (v : View) where
 
 -- one run over the columns ------------------------------------------------------------------------------------------------------------
 
-missed_by_lem : (v : View) (c : List ℕ) (j : ℕ) (x : Switch) → switch_in v c ≡ x
+missed_by_lem : (v : View) (c : List ℕ) (j : ℕ) (x : Option ℕ) → switch_in v c ≡ x
     → missed_by (critical v.policy j) (v.deadline j) (mark (outcome_in v c j)) x ≡ missed v c j
 unfolding missed_by missed required required_after late
 missed_by_lem v c j Never e = rw e refl

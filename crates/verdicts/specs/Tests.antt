@@ -5,11 +5,10 @@
 --   fit_with w           == the fit answer, with the worst finishes w
 --   unfit_in x job f c   == the unfit answer: job + 1, its finish f, in scenario x with times c
 --   found v              == the verdict found, with the times and the worst finishes beside it
-use Rattle.std.specs.Prelude.{ℕ, ◌+◌, ◌≡◌, Bool, true, cond, ◌||◌, List, eqb}
+use Rattle.std.specs.Prelude.{ℕ, ◌+◌, ◌≡◌, Bool, true, cond, ◌||◌, List, eqb, Ok as Found}
 use Rattle.model.specs.declared.Scenario.{Scenario}
 use Rattle.model.specs.declared.Scenario.TheVariants.{Lo, Hi}
 use Rattle.model.specs.declared.Assessed.{Assessed}
-use Rattle.model.specs.declared.Judgement.TheVariants.{Found}
 use Rattle.model.specs.declared.Verdict.TheVariants.{Fit, Unfit}
 use Rattle.model.specs.Sets.{View, critical}
 use Rattle.model.specs.Scenarios.{zeros, row, verdict, times_beside, worsts_beside}

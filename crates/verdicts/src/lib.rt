@@ -13,7 +13,7 @@ mod verdict;
 
 use checks::refusal_of;
 use columns::columns_of;
-use model::{Assessed, GOOD, Judged, Judgement, Refusal, Set};
+use model::{Assessed, GOOD, Judged, Refusal, Set};
 use rows::{margins_of, rows_of, worsts_of, zero_rows};
 use verdict::search;
 
@@ -24,7 +24,7 @@ pub fn assess(s: Set) -> Assessed
     let refusal = refusal_of(s);
     if refusal.number != GOOD {
         let judged = Judged {
-            judgement: Judgement::Refused(refusal),
+            judgement: Err(refusal),
             times: [0u16; 64],
         };
         return Assessed {

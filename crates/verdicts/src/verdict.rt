@@ -7,7 +7,7 @@ use crate::rows::raise;
 use crate::scenario::{lo_ends, plays_in, scenario_of, times_in};
 use columns::Columns;
 use measures::misses;
-use model::{Assessed, Judged, Judgement, Miss, Set, Verdict};
+use model::{Assessed, Judged, Miss, Set, Verdict};
 use runs::execute;
 
 // The fit answer, with the worst finishes given.
@@ -15,7 +15,7 @@ fn fit_with(worsts: [u16; 64]) -> Assessed
     ensures { result ≡ fit_with worsts }
 {
     let judged = Judged {
-        judgement: Judgement::Found(Verdict::Fit),
+        judgement: Ok(Verdict::Fit),
         times: [0u16; 64],
     };
     Assessed { judged, worsts }
@@ -33,7 +33,7 @@ fn unfit_in(x: usize, job: usize, finish: u16, times: [u16; 64]) -> Assessed
         finish,
     };
     let judged = Judged {
-        judgement: Judgement::Found(Verdict::Unfit(miss)),
+        judgement: Ok(Verdict::Unfit(miss)),
         times,
     };
     Assessed {

@@ -1,6 +1,6 @@
 -- `judged_page` meets its contract: each arm is given the judgement that it is for.
+use Rattle.std.specs.Prelude.{Ok as Found}
 use mathlib.Core.Path.{◌∙◌, ap}
-use Rattle.model.specs.declared.Judgement.TheVariants.{Found}
 use Rattle.printing.proofs.PageLaws.{found-good, fit_worsts, refused-judged, fit_judged, unfit_judged}
 use Rattle.printing.proofs.judged_page.Goals as goal
 
