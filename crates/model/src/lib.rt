@@ -1,6 +1,9 @@
 // The types of document 01. What they mean is in specs/, file by file in the document's order.
 #![tactic(auto)]
 
+ghost use Rattle.std.specs.Prelude.{◌≡◌};
+ghost use Rattle.model.specs.Refusals.{told};
+
 // A job's level of criticality. The mode of a run is one of the same two.
 #[derive(Clone, Copy, PartialEq, Eq)]
 pub enum Level {
@@ -39,6 +42,21 @@ pub struct Set {
 pub struct Refusal {
     pub number: u8,
     pub place: u64,
+}
+
+// What a check refuses, told as an answer: good where it refuses nothing.
+impl From<Result<(), Refusal>> for Refusal {
+    ghost from_gives = { λ r x. x ≡ told r };
+
+    fn from(r: Result<(), Refusal>) -> Refusal {
+        match r {
+            Ok(()) => Refusal {
+                number: GOOD,
+                place: 0,
+            },
+            Err(refusal) => refusal,
+        }
+    }
 }
 
 pub const GOOD: u8 = 0;
