@@ -5,23 +5,25 @@
 --   count_is, time_is, budget_is, lo_is, hi_is  == what the code finds is what checks 2, 3, 4, 6 and 7 say
 -- Assumes nothing.
 use Prim.Native.Nat.{ℕ, ◌≤◌, min}
-use mathlib.Core.Path.{◌≡◌, refl, sym, ◌∙◌, ap}
+use mathlib.Core.Path.{◌≡◌, refl, ◌∙◌, ap}
 use mathlib.Core.Bool.{Bool, cond}
 use mathlib.Core.List.{List, [], ◌∷◌, ◌++◌}
 use native.Mathlib.Omega.{arith}
-use borrow.Author.Tests.{eq-eqb, ne_eqb}
+use borrow.Author.Tests.{ne_eqb}
 use Rattle.model.specs.declared.Refusal.{Refusal}
 use Rattle.model.specs.declared.Set.{Set}
 use Rattle.model.specs.declared.Level.TheVariants.{Lo, Hi}
 use Rattle.model.specs.Lists.{first, cut}
 use Rattle.model.specs.Sets.{is_hi, critical, view, count_of, members, order_of}
-use Rattle.model.specs.Refusals.{good, is_good, applies, placed, first_of, lowest, fault, check_count, time_wrong, check_time, budget_wrong, check_budget, check_lo_order, is_hi_job, check_hi_order}
+use Rattle.model.specs.Refusals.{good, is_good, checked, applies, placed, first_of, lowest, fault, check_count, time_wrong, check_time, budget_wrong, check_budget, check_lo_order, is_hi_job, check_hi_order}
 use Rattle.rules.specs.Rules.{untimely, unbudgeted, breaks, breaks_at, may_stand, marked}
 use Rattle.laws.proofs.Bools.{split}
 use Rattle.laws.proofs.Members.{hi_jobs_most}
 use Rattle.laws.proofs.Checks.{counts_right}
 use Rattle.rules.proofs.Laws.{and_true}
 use Rattle.rules.proofs.Faults.{fault_cong}
+use Rattle.std.proofs.Common.{Ok, Err}
+use Rattle.checks.proofs.Checked.{passes, refused}
 
 pub alone : (n k : ℕ) (b : Bool) → 1 ≤ n → applies n k b ≡ first_of (applies n k b ∷ [])
 unfolding first_of is_good applies good
@@ -32,24 +34,22 @@ unfolding first_of is_good good
 first-append [] m = refl
 first-append (x ∷ l) m = split (is_good x) (λ t. rw t (first-append l m)) (λ f. rw (f, f))
 
-module _ (r : Refusal) (l m : List Refusal) (e : r ≡ first_of l) where
-  pub taken : (r.number ≡ 0 → ⊥) → r ≡ first_of (l ++ m)
-  unfolding is_good
-  taken h = sym (first-append l m ∙ rw (ne_eqb (first_of l).number 0 (λ z. h (ap (λ x. x.number) e ∙ z))) (sym e))
+-- where the first checks refuse, theirs is the first refusal of all; where they pass, the others decide
+module _ (l m : List Refusal) where
+  pub taken : (x : Refusal) → Err x ≡ checked (first_of l) → Err x ≡ checked (first_of (l ++ m))
+  taken x e = rw (first-append l m, (refused (first_of l) x e).1) e
 
-  pub passed : r.number ≡ 0 → first_of (l ++ m) ≡ first_of m
-  unfolding is_good
-  passed z = first-append l m ∙ rw (eq-eqb (first_of l).number 0 (ap (λ x. x.number) (sym e) ∙ z))
+  pub passed : Ok (tt {0}) ≡ checked (first_of l) → checked (first_of m) ≡ checked (first_of (l ++ m))
+  passed e = rw (first-append l m, passes (first_of l) e) refl
 
-pub count_is : (s : Set) (r : Refusal) → r ≡ check_count (view s) → r ≡ first_of (check_count (view s) ∷ [])
+pub count_is : (s : Set) → check_count (view s) ≡ first_of (check_count (view s) ∷ [])
 unfolding check_count
-count_is s r e = e ∙ alone 2 _ _ (omega arith)
+count_is s = alone 2 _ _ (omega arith)
 
-pub counts_fit : (s : Set) (r : Refusal) → r ≡ check_count (view s) → r.number ≡ 0
-    → (s.count ≤ 64) × (s.lo.count ≤ 64) × (s.hi.count ≤ 64)
-unfolding is_good view count_of
-counts_fit s r e z =
-    let k = counts_right (view s) (eq-eqb (check_count (view s)).number 0 (ap (λ x. x.number) (sym e) ∙ z)) in
+pub counts_fit : (s : Set) → Ok (tt {0}) ≡ checked (check_count (view s)) → (s.count ≤ 64) × (s.lo.count ≤ 64) × (s.hi.count ≤ 64)
+unfolding view count_of
+counts_fit s e =
+    let k = counts_right (view s) (passes _ e) in
     omega (arith, k, hi_jobs_most (view s))
 
 within : (n : ℕ) → n ≤ 64 → min n 64 ≡ n

@@ -5,7 +5,7 @@ use mathlib.Core.Path.{◌≡◌, ◌∙◌, ap}
 use lib.Dec.{eqb, ltb}
 use Rattle.model.specs.declared.Set.{Set}
 use Rattle.model.specs.Sets.{view, count_of}
-use Rattle.model.specs.Refusals.{applies, check_count}
+use Rattle.model.specs.Refusals.{applies, checked, check_count}
 use Rattle.checks.proofs.refusals.check_count.Goals as goal
 
 -- N and the counts are wrong, where k jobs are HI jobs
@@ -16,6 +16,6 @@ wrong s k =
 
 pub returns : goal.returns
 unfolding check_count view count_of wrong
-returns c = let s = c.args.s in
-    let e : c.applies.result ≡ applies 2 s.count (wrong s c.hi_jobs-found.result) = c.applies.ensures in
-    e ∙ ap (λ k. applies 2 s.count (wrong s k)) c.hi_jobs-found.ensures
+returns c = let s = c.args.s.now in
+    let e : c.refuse.result ≡ checked (applies 2 s.count (wrong s c.hi_jobs-found.result)) = c.refuse.ensures in
+    e ∙ ap (λ k. checked (applies 2 s.count (wrong s k))) c.hi_jobs-found.ensures
