@@ -1,7 +1,6 @@
 -- `slots_refusal` meets its contract: each way out is one of the laws of SlotAnswers.
 use Rattle.std.proofs.Common.{rules}
 use mathlib.Core.Path.{◌≡◌, sym, ◌∙◌, ap}
-use lib.ListN.{length}
 use Rattle.model.specs.Sets.{view}
 use Rattle.laws.proofs.Answers.{good_of}
 use Rattle.columns.specs.Columns.{Prepared}
