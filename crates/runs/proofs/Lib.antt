@@ -6,6 +6,6 @@ pub mod Steps
 pub mod Progress
 pub mod Advance
 pub mod Room
-pub mod SlotTurns
+pub mod Refused
 pub mod SlotAnswers
 pub mod RangeLaws
