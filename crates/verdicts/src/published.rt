@@ -7,7 +7,7 @@ ghost use Rattle.model.specs.Scenarios.{row, lo_times};
 ghost use Rattle.model.specs.Refusals.{is_good, refusal};
 
 use checks::check;
-use model::{Job, Level, Refusal, Scenario, Set};
+use model::{Job, Level, Ran, Refusal, Scenario, Set};
 use runs::execute;
 
 // The running times of scenario 0: each job's LO budget.
@@ -35,6 +35,7 @@ impl Test {
     ghost use Rattle.std.specs.Prelude.{◌<◌, ◌+◌, false, length, take, MatchResult};
     ghost use Rattle.model.specs.declared.Scenario.TheVariants.{Hi as HiOf};
     ghost use Rattle.model.specs.Scenarios.{times_of};
+    ghost use Rattle.runs.specs.Engine.{run_of};
     ghost use Rattle.verdicts.specs.Tests.{scenario_at, IsScenario, time_in};
 
     // The test of a set, or the first refusal that applies to it.
@@ -98,11 +99,11 @@ impl Test {
         times
     }
 
-    // The finishes of a scenario of the set.
-    pub fn finishes(&self, scenario: Scenario) -> [u16; 64]
+    // The run of a scenario of the set: its times lie in their range, so it is not refused.
+    pub fn run(&self, scenario: Scenario) -> Ran
         requires { IsScenario (view self.now.set) scenario }
-        ensures { result ≡ row (view self.now.set) scenario }
+        ensures { result ≡ run_of (view self.now.set) (times_of (view self.now.set) scenario) }
     {
-        execute(self.set, self.times(scenario)).finishes
+        execute(self.set, self.times(scenario))
     }
 }

@@ -16,7 +16,8 @@ impl Test {
         let mut rows = [[0u16; 64]; 65];
         for x in 0..=self.set.count {
             if let Some(scenario) = self.scenario(x) {
-                rows[x] = self.finishes(scenario);
+                let finishes = self.run(scenario).finishes;
+                rows[x] = finishes;
             }
         }
         rows
@@ -40,7 +41,7 @@ impl Test {
         let mut worsts = self.ends;
         for x in 1..=self.set.count {
             if let Some(scenario) = self.scenario(x) {
-                worsts = self.raised(&worsts, &self.finishes(scenario));
+                worsts = self.raised(&worsts, &self.run(scenario).finishes);
             }
         }
         worsts

@@ -4,7 +4,6 @@ use native.Mathlib.Omega.{arith}
 use Rattle.model.specs.Sets.{blank, job}
 use Rattle.verdicts.proofs.Entries.{critical_is, deadline_is}
 use Rattle.verdicts.proofs.Found.{Left, turn_start, turn_pass, turn_skip, turn_end, turn-miss}
-use Rattle.verdicts.proofs.Scenarios.{scenario-ran}
 use Rattle.verdicts.proofs.Search.{is_scenario, passed_more, missed-turn}
 use Rattle.verdicts.proofs.published.Test.search.Goals as goal
 use Rattle.verdicts.proofs.published.Test.search.Goals.{in-Some+else-loop-i-test, in_default, then-loop-x-test+in-Some+then-loop-i-test+then-misses, else-loop-x-test, then-loop-x-test+else-x-x-end}
@@ -12,17 +11,16 @@ use Rattle.verdicts.proofs.published.Test.search.Goals.{in-Some+else-loop-i-test
 pub loop-x-init : goal.loop-x-init
 loop-x-init c = turn_start _ c.args.self.now.good _ c.args.self.now.ends_are
 
-pub times-requires : goal.times-requires
-times-requires c = is_scenario _ _ (omega arith) _ c.in-Some.ensures
+pub run-ran-requires : goal.run-ran-requires
+run-ran-requires c = is_scenario _ _ (omega arith) _ c.in-Some.ensures
 
 pub loop-i-preserved : goal.loop-i-preserved
 unfolding blank job
 loop-i-preserved c =
     let g = c.args.self.now.good in
     let j = c.jobs-job-items.ensures.jobs in
-    let i = is_scenario _ _ (omega arith) _ c.in-Some.ensures in
     passed_more _ g _ _ c.loop-i.invariant
-    (missed-turn _ g _ _ _ _ _ (omega arith) (scenario-ran _ g _ i _ _ c.times.ensures c.execute-ran.ensures) _
+    (missed-turn _ g _ _ _ _ _ (omega arith) c.run-ran.ensures _
     (critical_is _ _ j _ (omega arith) _ c.eq.ensures) _ (deadline_is _ _ j _ (omega arith)) c.misses.ensures c.if-misses.false)
 
 pub loop-x-preserved : goal.loop-x-preserved
@@ -32,7 +30,7 @@ loop-x-preserved c =
     elim c.match-scenario.branch [
       | in-Some+else-loop-i-test w ↦
           let p = w.in-Some.ensures in
-          turn_pass _ g _ _ c.loop-x.invariant _ p q _ (scenario-ran _ g _ (is_scenario _ _ q _ p) _ _ w.times.ensures w.execute-ran.ensures) _ w.loop-i.invariant _
+          turn_pass _ g _ _ c.loop-x.invariant _ p q _ w.run-ran.ensures _ w.loop-i.invariant _
           (omega arith) (w.worsts-is ∙ w.raised-worsts.ensures)
       | in_default w ↦ turn_skip _ g _ _ c.loop-x.invariant _ w.worsts-is w.in_default.ensures q
     ]
@@ -47,7 +45,7 @@ left c =
           let p = w.in-Some.ensures in
           let q : c.loop-x.x ≤ c.args.self.now.set.count = omega arith in
           let j = w.jobs-job-items.ensures.jobs in
-          turn-miss _ g _ _ c.loop-x.invariant _ p q _ (scenario-ran _ g _ (is_scenario _ _ q _ p) _ _ w.times.ensures w.execute-ran.ensures) _ w.loop-i.invariant
+          turn-miss _ g _ _ c.loop-x.invariant _ p q _ w.run-ran.ensures _ w.loop-i.invariant
           _ (omega arith) _ (critical_is _ _ j _ (omega arith) _ w.eq.ensures) _ (deadline_is _ _ j _ (omega arith)) w.misses.ensures w.if-misses.true _ _
           w.verdict-is
       | else-loop-x-test w ↦ absurd (omega arith)
@@ -56,7 +54,7 @@ left c =
           elim w.match-scenario.branch [
             | in-Some+else-loop-i-test y ↦
                 let p = y.in-Some.ensures in
-                let t = turn_pass _ g _ _ c.loop-x.invariant _ p q _ (scenario-ran _ g _ (is_scenario _ _ q _ p) _ _ y.times.ensures y.execute-ran.ensures) _ y.loop-i.invariant
+                let t = turn_pass _ g _ _ c.loop-x.invariant _ p q _ y.run-ran.ensures _ y.loop-i.invariant
                 _ (omega arith) (w.worsts-is ∙ y.worsts-is ∙ y.raised-worsts.ensures) in
                 turn_end _ g _ _ t (omega arith) _ w.verdict-is
             | in_default y ↦
