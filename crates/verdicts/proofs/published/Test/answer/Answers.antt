@@ -3,9 +3,6 @@ use Rattle.model.specs.Scenarios.{zeros}
 use Rattle.verdicts.proofs.Found.{answer-fit, answer_unfit}
 use Rattle.verdicts.proofs.published.Test.answer.Goals as goal
 
-pub times-times-requires : goal.times-times-requires
-times-times-requires c = c.requires.verdict_is.scenario _ c.in-Unfit.is
-
 pub returns-in-Fit : goal.returns-in-Fit
 unfolding zeros
 returns-in-Fit c = answer-fit _ _ _ c.requires.verdict_is.is c.in-Fit.is (c.requires.worsts_are c.in-Fit.is)

@@ -1,11 +1,11 @@
-use mathlib.Core.Path.{sym, ◌∙◌, ap, subst}
+use mathlib.Core.Path.{sym, ◌∙◌, ap}
 use native.Mathlib.Omega.{arith}
 use native.Mathlib.Numerals.{add-one}
 use Rattle.laws.proofs.Fill.{up_to_zero, up_to-more}
 use Rattle.model.specs.declared.Scenario.TheVariants.{Hi}
 use Rattle.model.specs.Sets.{view}
 use Rattle.model.specs.Scenarios.{times_of}
-use Rattle.verdicts.specs.Tests.{IsScenario, time_in}
+use Rattle.verdicts.specs.Tests.{time_in}
 use Rattle.verdicts.proofs.Raised.{times-hi, times_lo}
 use Rattle.verdicts.proofs.published.Test.times.Goals as goal
 
@@ -14,13 +14,6 @@ returns-in_default c = times_lo _ _ _ c.in_default.is c.lo_times.ensures
 
 pub loop-i-init : goal.loop-i-init
 loop-i-init c = sym (up_to_zero _ 0)
-
-pub time-requires : goal.time-requires
-time-requires c =
-    record {
-      of_the_set = subst (IsScenario (view c.args.self.now.set)) (c.in-Hi.is ∙ ap Hi (sym c.from-own.ensures)) c.requires;
-      in_the_set = c.loop-i-test.true;
-    }
 
 pub loop-i-preserved : goal.loop-i-preserved
 loop-i-preserved c =
