@@ -22,10 +22,10 @@ use Rattle.model.specs.declared.Set.{Set}
 use Rattle.verdicts.proofs.Entries.{place_is}
 use Rattle.runs.specs.Engine.{run_of}
 use Rattle.verdicts.specs.Tests.{numbered, scenario_at}
-use Rattle.verdicts.specs.Rows.{worse_in}
+use Rattle.verdicts.specs.Rows.{worse_in, raised_in}
 use Rattle.verdicts.proofs.Search.{plays_out, here, absent}
 use Rattle.verdicts.proofs.Scenarios.{row-ran}
-use Rattle.verdicts.proofs.RowLaws.{worst_to, places_same, worsts-start, worsts-more, worsts_keep, worsts-end}
+use Rattle.verdicts.proofs.RowLaws.{worst_to, places_same, raised-places, worsts-start, worsts-more, worsts_keep, worsts-end}
 
 abbrev pub Carried : View → ℕ → List ℕ → Type 0
 Carried v x w = w ≡ places v (worst_to v (max 1 x))
@@ -38,21 +38,21 @@ module _ (s : Set) (h : is_good (refusal (view s)) ≡ true) where
   carried_start w e = worsts-start s h w e
 
   -- raised by finishes that they are already
-  again : (w f m : List ℕ) (g : ℕ → ℕ) → w ≡ places (view s) g → f ≡ places (view s) g → m ≡ places (view s) (worse_in (view s) w f)
+  again : (w f m : List ℕ) (g : ℕ → ℕ) → w ≡ places (view s) g → f ≡ places (view s) g → m ≡ raised_in (view s) w f
       → m ≡ places (view s) g
   unfolding worse_in
   again w f m g e y z =
       let v = view s in
       let place : (l : List ℕ) → l ≡ places v g → (i : ℕ) → i < s.count → at l (suc i) 0 ≡ g (suc i) =
       λ l d i q. at_suc l i 0 ∙ ap (λ u. get_or u i 0) d ∙ place_is s h g i q in
-      z
+      z ∙ raised-places s h w f g e
       ∙ places_same s h (worse_in v w f) g
       (λ i q. split (critical v.policy (suc i))
       (λ b. rw b (max-same (at w (suc i) 0) (at f (suc i) 0) (place f y i q ∙ sym (place w e i q)) ∙ place w e i q))
       (λ b. rw b (place w e i q)))
 
   pub carried_pass : (x : ℕ) (y : Scenario) (w m : List ℕ) (r : Ran) → Carried (view s) x w → x ≤ s.count → Some y ≡ scenario_at (view s) x
-      → r ≡ run_of (view s) (times_of (view s) y) → m ≡ places (view s) (worse_in (view s) w r.finishes) → Carried (view s) (x + 1) m
+      → r ≡ run_of (view s) (times_of (view s) y) → m ≡ raised_in (view s) w r.finishes → Carried (view s) (x + 1) m
   unfolding numbered
   carried_pass zero y w m r e q p g z =
       let ends : r.finishes ≡ row (view s) Lo = row-ran (view s) y r g ∙ ap (row (view s)) (here s 0 y p).1 in

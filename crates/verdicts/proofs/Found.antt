@@ -25,7 +25,7 @@ use Rattle.model.specs.Scenarios.{zeros, places, row, times_of, finish_in, late_
 use Rattle.model.specs.Refusals.{is_good, refusal}
 use Rattle.runs.specs.Engine.{run_of}
 use Rattle.measures.specs.Measures.{missed_by}
-use Rattle.verdicts.specs.Rows.{worse_in}
+use Rattle.verdicts.specs.Rows.{raised_in}
 use Rattle.verdicts.specs.Tests.{scenario_at, IsScenario, IsVerdict, found}
 use Rattle.verdicts.proofs.Entries.{part_e, few}
 use Rattle.verdicts.proofs.Carried.{Carried, carried_start, carried_pass, carried_skip, carried_end}
@@ -65,7 +65,7 @@ module _ (s : Set) (h : is_good (refusal (view s)) ≡ true) (x : ℕ) (w : List
 
   module _ (y : Scenario) (p : Some y ≡ scenario_at (view s) x) (q : x ≤ s.count) (r : Ran) (run : r ≡ run_of (view s) (times_of (view s) y))
       (job : ℕ) (passed : Passed (view s) (times_of (view s) y) job) where
-    pub turn_pass : (m : List ℕ) → s.count ≤ job → m ≡ places (view s) (worse_in (view s) w r.finishes) → Turn s (x + 1) m
+    pub turn_pass : (m : List ℕ) → s.count ≤ job → m ≡ raised_in (view s) w r.finishes → Turn s (x + 1) m
     turn_pass m l z = (
       let n = here s x y p in
           t.0

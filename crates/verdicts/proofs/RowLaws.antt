@@ -2,36 +2,37 @@
 --   rows_to v x        == the rows before row x, and nothing in the others
 --   rows_start, rows-set, rows-turn, rows_keep, rows_end   == a turn of the loop over the rows
 --   worst_to v x j     == job j's worst finish over the rows before row x
---   raise-..           == the loop that raises the worst finishes by one more run
+--   raise-..           == the loop that raises the worst finishes by one more run;  raised-places: what it makes of a filling
 --   places_same        == two fillings are equal that agree at the jobs
 --   worsts-..          == the loop over the HI scenarios: before it, a turn with a run and one without, and after it
 --   margins-..         == the loop over the jobs' margins
 -- Assumes nothing.
 use Prim.Native.Nat.{ℕ, zero, suc, ◌+◌, ◌-◌, ◌≤◌, ◌<◌, max}
 use mathlib.Core.Path.{◌≡◌, refl, sym, ◌∙◌, ap, subst}
-use mathlib.Core.Bool.{Bool, true, false, cond}
-use mathlib.Core.List.{List, [], ◌∷◌}
+use mathlib.Core.Bool.{Bool, true, false, cond, ◌&&◌}
+use mathlib.Core.List.{List, [], ◌∷◌, map}
 use mathlib.Core.Logic.{⊎_elim}
 use native.Mathlib.Omega.{arith}
 use native.Mathlib.Numerals.{add-one}
 use lib.Dec.{leb}
 use lib.IntN.{ℤ, pos, ◌-ℤ◌}
 use lib.ListN.{length, get_or, set, replicate, length-replicate, get_or-replicate}
-use borrow.Author.Tests.{lt-leb}
+use borrow.Author.Tests.{le-leb, lt-leb}
 use Rattle.std.specs.Prelude.{Some, None}
 use Rattle.model.specs.declared.Scenario.{Scenario}
 use Rattle.model.specs.declared.Scenario.TheVariants.{Lo}
-use Rattle.model.specs.Lists.{at, largest}
+use Rattle.model.specs.Lists.{at, numbers, largest}
 use Rattle.model.specs.Sets.{View, view, critical}
 use Rattle.model.specs.Scenarios.{places, zeros, finish_in, row, hi_row, rows, worst, margin}
 use Rattle.model.specs.Refusals.{is_good, refusal}
 use Rattle.laws.proofs.Bools.{tests, split, and_i, and_no_l}
-use Rattle.laws.proofs.Places.{at_suc}
+use Rattle.laws.proofs.Places.{at_suc, ext_at}
+use Rattle.laws.proofs.Sums.{at-numbers}
 use Rattle.model.specs.declared.Set.{Set}
 use Rattle.verdicts.proofs.Entries.{part_e, few, place_is}
 use Rattle.verdicts.specs.Tests.{numbered, plays, scenario_at}
-use Rattle.verdicts.specs.Rows.{worse_in, margins_in}
-use Rattle.laws.proofs.Fill.{map_same, map_at, up_to, up_to-length, up_to-more, up_to_zero, mixed, mixed-set, mixed_keep, up_to-places}
+use Rattle.verdicts.specs.Rows.{worse_in, raised_in, margins_in}
+use Rattle.laws.proofs.Fill.{map_same, map_at, up_to, up_to-length, up_to-more, up_to_zero, mixed, mixed_zero, mixed-set, mixed_keep, map-length, up_to-places}
 use Rattle.verdicts.proofs.Search.{plays_in, plays_out, plays_zero, numbered_suc, here, absent}
 
 pub rows_to : View → ℕ → List (List ℕ)
@@ -122,17 +123,41 @@ pub worst_to : View → ℕ → ℕ → ℕ
 worst_to v x j = cond (critical v.policy j) (largest (λ r. at r j 0) (rows_to v x)) (finish_in v Lo j)
 
 module _ (s : Set) (h : is_good (refusal (view s)) ≡ true) where
-  -- a turn of the loop that raises the worst finishes, and its end
-  pub raise-more : (w f l : List ℕ) (i y : ℕ) (b : Bool) → l ≡ up_to i (worse_in (view s) w f) 0 → i < s.count
-      → b ≡ critical (view s).policy (suc i) → y ≡ cond b (max (get_or w i 0) (get_or f i 0)) (get_or w i 0) → set l i y ≡ up_to (i + 1) (worse_in (view s) w f) 0
-  unfolding worse_in
-  raise-more w f l i y b e q k z =
-      up_to-more l i (worse_in (view s) w f) y 0 e (omega (arith, few s h))
-      (z ∙ sym (rw (sym k, at_suc w i 0, at_suc f i 0) refl))
+  -- before the loop that raises the worst finishes, its turn, and its end
+  pub raise_start : (w f : List ℕ) → length w ≡ 64 → w ≡ mixed 0 (worse_in (view s) w f) (λ j. at w j 0)
+  raise_start w f e =
+      let g : ℕ → ℕ = λ j. at w j 0 in
+      sym (mixed_zero (worse_in (view s) w f) g
+      ∙ ext_at 0 (map g (numbers 64)) w (map-length g ∙ sym e) (λ j p q. at-numbers g 64 j 0 p (omega (arith, q, map-length g))))
 
-  pub raise_all : (f : ℕ → ℕ) (l : List ℕ) (i : ℕ) → l ≡ up_to i f 0 → i ≡ s.count → l ≡ places (view s) f
-  unfolding places view
-  raise_all f l i e z = e ∙ ap (λ n. up_to n f 0) z ∙ up_to-places s.count f 0
+  pub raise-more : (w f l : List ℕ) (i y : ℕ) (b : Bool) → l ≡ mixed i (worse_in (view s) w f) (λ j. at w j 0) → i < s.count
+      → b ≡ critical (view s).policy (suc i) → y ≡ cond b (max (get_or l i 0) (get_or f i 0)) (get_or l i 0) → set l i y ≡ mixed (i + 1) (worse_in (view s) w f) (λ j. at w j 0)
+  unfolding worse_in mixed
+  raise-more w f l i y b e q k z =
+      let v = view s in
+      let g : ℕ → ℕ = λ j. at w j 0 in
+      let here : get_or l i 0 ≡ at w (suc i) 0 =
+      ap (λ m. get_or m i 0) e ∙ map_at (λ j. cond (leb j i) (worse_in v w f j) (g j)) i 0 (omega (arith, few s h)) ∙ rw (lt-leb (suc i) i (omega arith)) refl in
+      ap (λ m. set m i y) e
+      ∙ mixed-set (worse_in v w f) g i y (omega (arith, few s h)) (z ∙ sym (rw (sym k, sym here, at_suc f i 0) refl))
+
+  pub raise_all : (w f l : List ℕ) (i : ℕ) → l ≡ mixed i (worse_in (view s) w f) (λ j. at w j 0) → i ≡ s.count → l ≡ raised_in (view s) w f
+  unfolding raised_in mixed view
+  raise_all w f l i e z =
+      e ∙ map_same (λ j. cond (leb j i) (worse_in (view s) w f j) (at w j 0)) (λ j. cond (leb 1 j && leb j s.count) (worse_in (view s) w f j) (at w j 0))
+      (λ j p q. rw (z, le-leb 1 j p) refl)
+
+  -- what belongs to no job holds 0, and so it stays
+  pub raised-places : (w f : List ℕ) (g : ℕ → ℕ) → w ≡ places (view s) g → raised_in (view s) w f ≡ places (view s) (worse_in (view s) w f)
+  unfolding raised_in places
+  raised-places w f g e =
+      let v = view s in
+      map_same (λ j. cond (v.policy.part j) (worse_in v w f j) (at w j 0)) (λ j. cond (v.policy.part j) (worse_in v w f j) 0)
+      (λ j p q.
+      split (v.policy.part j) (λ a. rw a refl)
+      (λ a.
+      let none : at w j 0 ≡ 0 = ap (λ l. at l j 0) e ∙ at-numbers (λ n. cond (v.policy.part n) (g n) 0) 64 j 0 p q ∙ rw a refl in
+      rw (a, none) refl))
 
   -- two fillings are equal that agree at the jobs
   pub places_same : (f g : ℕ → ℕ) → ((i : ℕ) → i < s.count → f (suc i) ≡ g (suc i)) → places (view s) f ≡ places (view s) g
@@ -169,14 +194,14 @@ module _ (s : Set) (h : is_good (refusal (view s)) ≡ true) where
 
   pub worsts-more : (w m : List ℕ) (x : ℕ) (f : List ℕ) → w ≡ places (view s) (worst_to (view s) x) → x ≤ s.count
       → (y : Scenario) → Some y ≡ scenario_at (view s) x → f ≡ row (view s) y
-      → m ≡ places (view s) (worse_in (view s) w f) → m ≡ places (view s) (worst_to (view s) (x + 1))
+      → m ≡ raised_in (view s) w f → m ≡ places (view s) (worst_to (view s) (x + 1))
   unfolding worse_in worst_to
   worsts-more w m x f e q n hit g z =
       let v = view s in
       let t = here s x n hit in
       let p = t.0 in
       let y : f ≡ row v (numbered x) = g ∙ ap (row v) t.1 in
-      z
+      z ∙ raised-places w f (worst_to v x) e
       ∙ places_same (worse_in v w f) (worst_to v (x + 1))
       (λ i l.
       let a : at w (suc i) 0 ≡ worst_to v x (suc i) = at_suc w i 0 ∙ ap (λ u. get_or u i 0) e ∙ place_is s h (worst_to v x) i l in

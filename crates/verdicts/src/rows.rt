@@ -2,7 +2,7 @@
 ghost use Rattle.std.specs.Prelude.{◌≡◌};
 ghost use Rattle.model.specs.Sets.{view};
 ghost use Rattle.model.specs.Scenarios.{places, rows as rows_in, worst};
-ghost use Rattle.verdicts.specs.Rows.{worse_in, margins_in};
+ghost use Rattle.verdicts.specs.Rows.{raised_in, margins_in};
 
 use crate::published::Test;
 use measures::{margin_of, worse};
@@ -23,15 +23,13 @@ impl Test {
         rows
     }
 
-    // The worst finishes after one more run: those of the HI jobs are raised.
-    pub fn raised(&self, worsts: &[u16; 64], finishes: &[u16; 64]) -> [u16; 64]
-        ensures { result ≡ places (view self.now.set) (worse_in (view self.now.set) worsts.now finishes.now) }
+    // Raises the worst finishes by one more run: those of the HI jobs.
+    pub fn raise(&self, worsts: &mut [u16; 64], finishes: &[u16; 64])
+        ensures { worsts.new ≡ raised_in (view self.now.set) worsts.old finishes.now }
     {
-        let mut raised = [0u16; 64];
         for (i, job) in self.jobs().iter().enumerate() {
-            raised[i] = worse(job.level == Level::Hi, worsts[i], finishes[i]);
+            worsts[i] = worse(job.level == Level::Hi, worsts[i], finishes[i]);
         }
-        raised
     }
 
     // Each job's worst finish: the run of scenario LO, raised by that of each HI scenario.
@@ -41,7 +39,7 @@ impl Test {
         let mut worsts = self.ends;
         for x in 1..=self.set.count {
             if let Some(scenario) = self.scenario(x) {
-                worsts = self.raised(&worsts, &self.run(scenario).finishes);
+                self.raise(&mut worsts, &self.run(scenario).finishes);
             }
         }
         worsts

@@ -30,7 +30,7 @@ impl Test {
                             });
                         }
                     }
-                    worsts = self.raised(&worsts, &ran.finishes);
+                    self.raise(&mut worsts, &ran.finishes);
                 }
             }
             Verdict::Fit

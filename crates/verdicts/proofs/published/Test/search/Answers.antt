@@ -31,7 +31,7 @@ loop-x-preserved c =
       | in-Some+else-loop-i-test w ↦
           let p = w.in-Some.ensures in
           turn_pass _ g _ _ c.loop-x.invariant _ p q _ w.run-ran.ensures _ w.loop-i.invariant _
-          (omega arith) (w.worsts-is ∙ w.raised-worsts.ensures)
+          (omega arith) (w.worsts-is ∙ w.raise.ensures)
       | in_default w ↦ turn_skip _ g _ _ c.loop-x.invariant _ w.worsts-is w.in_default.ensures q
     ]
 
@@ -55,7 +55,7 @@ left c =
             | in-Some+else-loop-i-test y ↦
                 let p = y.in-Some.ensures in
                 let t = turn_pass _ g _ _ c.loop-x.invariant _ p q _ y.run-ran.ensures _ y.loop-i.invariant
-                _ (omega arith) (w.worsts-is ∙ y.worsts-is ∙ y.raised-worsts.ensures) in
+                _ (omega arith) (w.worsts-is ∙ y.worsts-is ∙ y.raise.ensures) in
                 turn_end _ g _ _ t (omega arith) _ w.verdict-is
             | in_default y ↦
                 let t = turn_skip _ g _ _ c.loop-x.invariant _ (w.worsts-is ∙ y.worsts-is) y.in_default.ensures q in

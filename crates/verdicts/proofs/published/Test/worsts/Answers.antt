@@ -17,7 +17,7 @@ pub loop-x-preserved : goal.loop-x-preserved
 loop-x-preserved c =
     let g = c.args.self.now.good in
     elim c.match-scenario.branch [
-      | in-Some w ↦ w.worsts-is ∙ worsts-more _ g _ _ _ _ c.loop-x.invariant c.loop-x-test.true _ w.in-Some.ensures (row-ran _ _ _ w.run.ensures) w.raised-worsts.ensures
+      | in-Some w ↦ w.worsts-is ∙ worsts-more _ g _ _ _ _ c.loop-x.invariant c.loop-x-test.true _ w.in-Some.ensures (row-ran _ _ _ w.run.ensures) w.raise.ensures
       | in_default w ↦ w.worsts-is ∙ c.loop-x.invariant ∙ worsts_keep _ g _ w.in_default.ensures
     ]
 
@@ -29,7 +29,7 @@ returns-after-scenario c =
     let g = c.args.self.now.good in
     elim c.match-scenario.branch [
       | in-Some w ↦
-          w.worsts-is ∙ worsts-more _ g _ _ _ _ c.loop-x.invariant c.loop-x-test.true _ w.in-Some.ensures (row-ran _ _ _ w.run.ensures) w.raised-worsts.ensures
+          w.worsts-is ∙ worsts-more _ g _ _ _ _ c.loop-x.invariant c.loop-x-test.true _ w.in-Some.ensures (row-ran _ _ _ w.run.ensures) w.raise.ensures
           ∙ worsts-end _ g _ (omega arith)
       | in_default w ↦ w.worsts-is ∙ c.loop-x.invariant ∙ worsts_keep _ g _ w.in_default.ensures ∙ worsts-end _ g _ (omega arith)
     ]
