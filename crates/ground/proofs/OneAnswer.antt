@@ -19,7 +19,7 @@ use Rattle.model.specs.declared.Ran.{Ran}
 use Rattle.model.specs.declared.Judged.{Judged}
 use Rattle.model.specs.declared.Assessed.{Assessed}
 use Rattle.columns.specs.declared.Columns.{Columns}
-use Rattle.ground.specs.Promises.{IsHi, Untimely, Unbudgeted, Places, Members, FaultOf, Checks, RefusalOf, SpanOf, ColumnsOf, Assesses, Judges, FinishRows, RowsRefusal, WorstFinishes, Margins, Executes, Slots}
+use Rattle.ground.specs.Promises.{IsHi, Untimely, Unbudgeted, Places, Members, FaultOf, Checks, RefusalOf, SpanOf, ColumnsOf, Orders, ChecksRoom, Assesses, Judges, FinishRows, RowsRefusal, WorstFinishes, Margins, Executes, Slots}
 use Rattle.ground.specs.Promises.{Picks, Parts, PartRefusal, MakesTables, InRange, Outruns, IsEnabled, Misses, Worse, MarginOf}
 
 pub one : {A : Type 0} {x y z : A} → x ≡ z → y ≡ z → x ≡ y
@@ -65,6 +65,14 @@ span_of_one s x y p q = one p q
 -- The columns of a set, which the runs and the analysis look at.
 pub columns_of_one : (s : Set) (x y : Columns) → ColumnsOf s x → ColumnsOf s y → x ≡ y
 columns_of_one s x y p q = one p q
+
+-- What the order of a mode holds.
+pub order_one : (k : Columns) (m : Level) (x y : List ℕ) → Orders k m x → Orders k m y → x ≡ y
+order_one k m x y p q = one p.3 q.3
+
+-- Whether lent tables are long enough.
+pub check_room_one : (s : Set) (lo hi : ℕ) (x y : Result (Unit {0}) Refusal) → ChecksRoom s lo hi x → ChecksRoom s lo hi y → x ≡ y
+check_room_one s lo hi x y p q = one p.2 q.2
 
 -- verdicts, runs, picks and parts ----------------------------------------------------------------------------------------------------
 

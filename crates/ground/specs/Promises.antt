@@ -3,6 +3,8 @@
 --   RefusalOf s x     == `refusal_of` may answer x for the set s, by its promise;  so for the others:
 --   IsHi, Untimely, Unbudgeted, Places, SpanOf, ColumnsOf, Assesses, Judges, FinishRows, RowsRefusal, WorstFinishes, Margins
 --   Checks s x, Members s l, FaultOf ok o x   == `check` and `members` of a set that is lent, and `fault_of` of marks and an order that are
+--   Orders k m x      == `order` of the columns k in the mode m: the slice that it answers holds x
+--   ChecksRoom s lo hi x   == `check_room` of the set s, for tables of lengths lo and hi
 --   Executes s c x    == `execute`, with the running times c
 --   Picks o a d t x   == `pick`, lent an order o, arrivals a and who is done d, at the instant t
 --   Parts l t x       == `part` of the table l from the instant t: the slice that it answers holds x;  PartRefusal: its companion
@@ -37,12 +39,14 @@ use Rattle.measures.proofs.misses.Reads.{Post as misses}
 use Rattle.measures.proofs.worse.Reads.{Post as worse}
 use Rattle.measures.proofs.margin_of.Reads.{Post as margin_of}
 use Rattle.columns.proofs.columns_of.Reads.{Post as columns_of}
+use Rattle.columns.proofs.Columns.order.Reads.{Post as order}
 use Rattle.verdicts.proofs.assess.Reads.{Post as assess}
 use Rattle.verdicts.proofs.judge.Reads.{Post as judge}
 use Rattle.verdicts.proofs.finish_rows.Reads.{Post as finish_rows}
 use Rattle.verdicts.proofs.rows_refusal.Reads.{Post as rows_refusal}
 use Rattle.verdicts.proofs.worst_finishes.Reads.{Post as worst_finishes}
 use Rattle.verdicts.proofs.margins.Reads.{Post as margins}
+use Rattle.runs.proofs.check_room.Reads.{Post as check_room}
 use Rattle.runs.proofs.execute.Reads.{Post as execute}
 use Rattle.runs.proofs.slots.Reads.{Post as slots}
 use Rattle.picks.proofs.pick.Reads.{Post as pick}
@@ -133,6 +137,12 @@ Members s l = (κs : Lfts 1) × (p q : Spot) × members κs (lent p s, tt) (slic
 
 abbrev pub FaultOf : List Bool → Order → Option ℕ → Type 0
 FaultOf ok o x = (κs : Lfts 2) × (p q : Spot) × fault_of κs (lent p ok, (lent q o, tt)) x (lent p ok, (lent q o, tt))
+
+abbrev pub Orders : Columns → Level → List ℕ → Type 0
+Orders k m x = (κs : Lfts 1) × (p q : Spot) × order κs (lent p k, (m, tt)) (slice q x) (lent p k, (m, tt))
+
+abbrev pub ChecksRoom : Set → ℕ → ℕ → Result (Unit {0}) Refusal → Type 0
+ChecksRoom s lo hi x = (κs : Lfts 1) × (p : Spot) × check_room κs (lent p s, (lo, (hi, tt))) x (lent p s, (lo, (hi, tt)))
 
 abbrev pub Picks : List ℕ → List ℕ → List Bool → ℕ → Option ℕ → Type 0
 Picks o a d t x =

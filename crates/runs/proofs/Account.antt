@@ -63,7 +63,7 @@ given_is g c t j i b p q l e f =
     rw (e, ne_eqb j 0 (omega arith)) (rw (h, x, f', y) (rw (d, add-one, add-one) refl))
 
 -- the progress before the job picked, if there is one, is given its slot
-abbrev pub moded : Progress → Level → ℕ → Option ℕ → Progress
+abbrev moded : Progress → Level → ℕ → Option ℕ → Progress
 moded g m x w =
     record {
       state = record { mode = m; had = g.state.had; done = g.state.done };
