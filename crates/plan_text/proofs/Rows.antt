@@ -1,6 +1,6 @@
 -- A line of numbers, place by place.
---   Begun .. v p i      == the numbers before place i have been read: the scan of the line is that of what is left of it
---   row-start, row_next == none has been read; one more
+--   Begun .. v i        == the numbers before place i have been read: the scan of the line is that of what is left of it
+--   row_start, row_next == none has been read; one more
 --   row-stuck, row-end  == the text is stuck in a number; all have been read
 -- Assumes nothing.
 use Prim.Native.Nat.{ℕ, zero, suc, ◌+◌, ◌-◌, ◌≤◌, ◌<◌}
@@ -8,22 +8,23 @@ use mathlib.Core.Path.{◌≡◌, refl, sym, ◌∙◌, ap}
 use mathlib.Core.Bool.{cond}
 use mathlib.Core.List.{List, [], ◌∷◌, ◌++◌}
 use native.Mathlib.Omega.{arith}
+use native.Mathlib.Numerals.{add-one}
 use borrow.Author.Tests.{ltb-true, ltb-false, lt-ltb, le-ltb}
 use lib.Dec.{ltb}
-use lib.ListN.{length, take, drop, set, replicate}
+use lib.ListN.{length, take, drop, set, length-set}
+use lib.Seq.{take-suc-set, take-length}
+use Rattle.std.proofs.Common.{Bor}
+use Rattle.std.proofs.lemmas.Result.{IfErr-at_err}
+use Rattle.std.specs.Prelude.{Option, Result, Ok, Err}
 use Rattle.laws.proofs.Bools.{split}
-use Rattle.forms.specs.Forms.{Form, scan, then, row, number, space, lf}
+use Rattle.forms.specs.Forms.{Form, scan, row, space, lf}
 use Rattle.forms.specs.Forms.Form.{field}
-use Rattle.fields.specs.declared.Field.{Field}
-use Rattle.fields.specs.declared.Got.{Got}
-use Rattle.fields.specs.declared.Field.TheVariants as piece
-use Rattle.fields.specs.declared.Step.TheVariants.{At, Stuck}
-use Rattle.fields.specs.Cursors.{piece_at, reached, Found, onward, stands}
-use Rattle.plan_text.specs.Parts.{limit_at, limits_from, limits, behind_at, Room, RowRead}
-use Rattle.plan_text.proofs.Room.{room-later, room-set, front-more}
+use Rattle.fields.specs.declared.Stuck.{Stuck}
+use Rattle.plan_text.specs.declared.reader.Reader.{Reader}
+use Rattle.plan_text.specs.Parts.{limit_at, limits_from, limits, behind_at, led, Takes}
 
 -- the first of a line's numbers, with as many as d behind it
-first : (level i d : ℕ) (l : List ℕ) (k : List ℕ → Form) →
+first : (level : Option ℕ) (i d : ℕ) (l : List ℕ) (k : List ℕ → Form) →
     row (limits_from level i (suc d)) l k
     ≡ field 0 (limit_at level i) (cond (ltb 0 d) space lf) (λ x. row (limits_from level (i + 1) d) (l ++ (x ∷ [])) k)
 unfolding row limits_from
@@ -37,67 +38,64 @@ behind n i h =
     (λ t. rw (t, lt-ltb 0 (n - (i + 1)) (omega (arith, ltb-true (i + 1) n t))))
     (λ f. rw (f, le-ltb 0 (n - (i + 1)) (omega (arith, ltb-false (i + 1) n f))))
 
-module _ (t : List ℕ) (at n level : ℕ) where
-  pub record Begun (v : List ℕ) (p i : ℕ) : Type 0 where
+module _ (r : Reader) (n : ℕ) (level : Option ℕ) where
+  pub record Begun (s : Reader) (v : List ℕ) (i : ℕ) : Type 0 where
     pub goes : (k : List ℕ → Form)
-        → scan (row (limits level n) [] k) (drop at t) ≡ scan (row (limits_from level i (n - i)) (take i v) k) (drop p t)
-    pub within : p ≤ length t
-    pub room : Room 0 i v
+        → scan (row (limits level n) [] k) (drop r.at r.text.now) ≡ scan (row (limits_from level i (n - i)) (take i v) k) (drop s.at r.text.now)
+    pub same : s.text ≡ r.text
+    pub size : length v ≡ n
 
-  pub row-start : at ≤ length t → Begun (replicate 64 0) at 0
+  pub row_start : (v : List ℕ) → length v ≡ n → Begun r v 0
   unfolding limits
-  row-start h =
+  row_start v h =
       let e : n ≡ n - 0 = omega arith in
       record {
-        goes = λ k. ap (λ j. scan (row (limits_from level 0 j) [] k) (drop at t)) e;
-        within = h;
-        room = record { size = refl; rest = refl };
+        goes = λ k. ap (λ j. scan (row (limits_from level 0 j) [] k) (drop r.at r.text.now)) e;
+        same = refl;
+        size = h;
       }
 
-  module _ (v : List ℕ) (p i : ℕ) (g : Begun v p i) where
-    pub row-end : i ≤ n → n ≤ i → RowRead t at n (row (limits level n) []) (record { values = v; step = At p })
-    unfolding onward stands row limits_from
-    row-end h q =
-        let e : i ≡ n = omega arith in
+  module _ (s : Reader) (v : List ℕ) (i : ℕ) (g : Begun s v i) where
+    pub row-end : i ≤ n → n ≤ i → Takes r (row (limits level n) []) s (λ (x : Unit {0}). v) (Ok tt)
+    unfolding led row limits_from
+    row-end q h =
+        let e : i ≡ length v = omega (arith, g.size) in
         let z : n - i ≡ 0 = omega arith in
         record {
-          goes = λ k. g.goes k ∙ ap (λ j. scan (row (limits_from level i j) (take i v) k) (drop p t)) z ∙ ap (λ j. scan (k (take j v)) (drop p t)) e;
-          within = g.within;
-          room = room-later 0 v i g.room n h;
+          goes = λ k. g.goes k ∙ ap (λ j. scan (row (limits_from level i j) (take i v) k) (drop s.at r.text.now)) z ∙ ap (λ l. scan (k l) (drop s.at r.text.now)) (ap (λ j. take j v) e ∙ take-length v);
+          within = tt;
+          same = g.same;
         }
 
     -- the number at place i, as it is found
-    module _ (h : i < n) (m b : ℕ) (r : Field) (em : m ≡ limit_at level i) (eb : b ≡ behind_at n i) (f : Found t p (number 0 m b) r) where
+    module _ (h : i < n) (m b : ℕ) (em : m ≡ limit_at level i) (eb : b ≡ behind_at n i) (q : Reader) (a : Result ℕ Stuck) (z : Takes s (field 0 m b) q (λ x. x) a) where
       found : (k : List ℕ → Form) →
-          scan (row (limits level n) [] k) (drop at t)
-          ≡ then (piece_at t r) (λ x u. scan (row (limits_from level (i + 1) (n - (i + 1))) (take i v ++ (x ∷ [])) k) u)
-      unfolding scan
+          scan (row (limits level n) [] k) (drop r.at r.text.now)
+          ≡ led r.text.now q.at (λ x. row (limits_from level (i + 1) (n - (i + 1))) (take i v ++ (x ∷ [])) k) a
       found k =
           let e : n - i ≡ suc (n - (i + 1)) = omega arith in
           let rest : ℕ → Form = λ x. row (limits_from level (i + 1) (n - (i + 1))) (take i v ++ (x ∷ [])) k in
           g.goes k
-          ∙ ap (λ j. scan (row (limits_from level i j) (take i v) k) (drop p t)) e
-          ∙ ap (λ f. scan f (drop p t)) (first level i (n - (i + 1)) (take i v) k)
-          ∙ ap (λ c. scan (field 0 (limit_at level i) c rest) (drop p t)) (sym (eb ∙ behind n i h))
-          ∙ ap (λ l. scan (field 0 l b rest) (drop p t)) (sym em)
-          ∙ ap (λ q. then q (λ x u. scan (rest x) u)) (sym f.piece)
+          ∙ ap (λ j. scan (row (limits_from level i j) (take i v) k) (drop s.at r.text.now)) e
+          ∙ ap (λ f. scan f (drop s.at r.text.now)) (first level i (n - (i + 1)) (take i v) k)
+          ∙ ap (λ c. scan (field 0 (limit_at level i) c rest) (drop s.at r.text.now)) (sym (eb ∙ behind n i h))
+          ∙ ap (λ l. scan (field 0 l b rest) (drop s.at r.text.now)) (sym em)
+          ∙ (rw g.same at (z.goes rest))
 
-      pub row-stuck : (q : ℕ) → r ≡ piece.Stuck q → RowRead t at n (row (limits level n) []) (record { values = v; step = Stuck q })
-      unfolding onward stands piece_at then reached
-      row-stuck q e =
+      pub row-stuck : (e : Stuck) → a ≡ Err e → (look : Unit {0} → List ℕ) → Takes r (row (limits level n) []) q look (Err e)
+      unfolding led
+      row-stuck e p look =
           record {
-            goes = λ k. found k ∙ rw e;
-            within = (rw e at f).within;
-            room = room-later 0 v i g.room n (omega arith);
+            goes = λ k. found k ∙ rw p;
+            within = rw (← ap (λ (t : Bor (List ℕ)). length t.now) g.same) (IfErr-at_err (λ (e : Stuck). e.at ≤ length s.text.now) p z.within);
+            same = z.same ∙ g.same;
           }
 
-      pub row_next : n ≤ 64 → (x : Got) → r ≡ piece.Number x → Begun (set v i x.value) x.at (i + 1)
-      unfolding piece_at then reached
-      row_next w x e =
+      pub row_next : (x : ℕ) → a ≡ Ok x → Begun q (set v i x) (i + 1)
+      unfolding led
+      row_next x p =
           record {
-            goes = λ k.
-                found k
-                ∙ rw (e, front-more 0 v i g.room x.value (omega arith));
-            within = (rw e at f).within;
-            room = room-set 0 v i g.room x.value;
+            goes = λ k. found k ∙ rw (p, add-one i, take-suc-set v i x (omega (arith, g.size)));
+            same = z.same ∙ g.same;
+            size = length-set v i x ∙ g.size;
           }

@@ -1,22 +1,16 @@
 // What the reader's answer is made of: a job of the numbers of its line, no job, no set, and the answer with its refusal.
 #![tactic(auto)]
 
-ghost use Rattle.std.specs.Prelude.{◌≡◌};
+ghost use Rattle.std.specs.Prelude.{◌≡◌, ◌≤◌, length};
 ghost use Rattle.model.specs.Sets.{blank};
 ghost use Rattle.model.specs.Texts.{level_number, no_set};
-ghost use Rattle.forms.specs.Forms.{level_of, job_of};
+ghost use Rattle.forms.specs.Forms.{job_of};
 ghost use Rattle.readings.specs.Readings.{answer, refused_at};
 
 use model::{Job, Level, Order, Reading, Refusal, Set, TEXT};
 
-// The level of a number.
-fn level_of(x: u16) -> Level
-    ensures { result ≡ level_of x }
-{
-    if x == 0 { Level::Lo } else { Level::Hi }
-}
-
 // The number of a level.
+#[tactic(auto, unfolding(model::specs::Texts::level_number))]
 pub fn level_number(l: Level) -> usize
     ensures { result ≡ level_number l }
 {
@@ -27,20 +21,22 @@ pub fn level_number(l: Level) -> usize
 }
 
 // The job that a line says: `A D level LO HI`.
-pub fn job_of(values: [u16; 64]) -> Job
-    ensures { result ≡ job_of values }
+#[tactic(auto, unfolding(forms::specs::Forms::job_of, forms::specs::Forms::level_of, model::specs::Sets::job))]
+pub fn job_of(values: &[u16]) -> Job
+    requires { 5 ≤ length values.now }
+    ensures { result ≡ job_of values.now }
 {
-    let level = level_of(values[2]);
     Job {
         arrival: values[0],
         deadline: values[1],
-        level,
+        level: if values[2] == 0 { Level::Lo } else { Level::Hi },
         lo: values[3],
         hi: values[4],
     }
 }
 
 // What stands in the room of a job.
+#[tactic(auto, unfolding(model::specs::Sets::blank, model::specs::Sets::job))]
 pub fn no_job() -> Job
     ensures { result ≡ blank }
 {
@@ -54,15 +50,16 @@ pub fn no_job() -> Job
 }
 
 // No set: all 0.
+#[tactic(auto, unfolding(model::specs::Texts::no_set, model::specs::Sets::set))]
 pub fn no_set() -> Set
     ensures { result ≡ no_set }
 {
-    let none = no_job();
-    let jobs = [none; 64];
-    let entries = [0u16; 64];
-    let order = Order { entries, count: 0 };
+    let order = Order {
+        entries: [0; 64],
+        count: 0,
+    };
     Set {
-        jobs,
+        jobs: [no_job(); 64],
         count: 0,
         lo: order,
         hi: order,
@@ -70,6 +67,7 @@ pub fn no_set() -> Set
 }
 
 // An answer: the refusal's number and place, and the set.
+#[tactic(auto, unfolding(crate::specs::Readings::answer))]
 pub fn answer(number: u8, place: usize, set: Set) -> Reading
     ensures { result ≡ answer number place set }
 {
@@ -83,6 +81,7 @@ pub fn answer(number: u8, place: usize, set: Set) -> Reading
 }
 
 // Refusal 1 with its place.
+#[tactic(auto, unfolding(crate::specs::Readings::refused_at))]
 pub fn refused(place: usize) -> Reading
     ensures { result ≡ refused_at place }
 {
