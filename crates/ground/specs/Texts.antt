@@ -6,7 +6,7 @@
 --   Numbering t a l m b x  == `number`, at the place a, from l to m, with the byte b behind it;  Expecting, Ending: given bytes
 --   LevelNumber, JobOf, NoJob, NoSet, MadeOf, RefusedAt   == those of the readings
 --   EmptyPage, WithByte, WithBytes, WithDecimal, WithField, WithMargin, RefusedPage, MissPage, WithJob   == those of the pages
-use Rattle.std.specs.Prelude.{ℕ, List, take}
+use Rattle.std.specs.Prelude.{ℕ, List, take, Result}
 use contract.Lifetimes.{Lfts}
 use Rattle.model.specs.declared.Level.{Level}
 use Rattle.model.specs.declared.Job.{Job}
@@ -14,8 +14,8 @@ use Rattle.model.specs.declared.Set.{Set}
 use Rattle.model.specs.declared.Refusal.{Refusal}
 use Rattle.model.specs.declared.Miss.{Miss}
 use Rattle.model.specs.declared.Reading.{Reading as ReadingOf}
-use Rattle.fields.specs.declared.Field.{Field}
-use Rattle.fields.specs.declared.Step.{Step}
+use Rattle.fields.specs.declared.Got.{Got}
+use Rattle.fields.specs.declared.Stuck.{Stuck}
 use Rattle.pages.specs.declared.Page.{Page}
 use Rattle.fields.proofs.number.Reads.{Post as number}
 use Rattle.fields.proofs.expect.Reads.{Post as expect}
@@ -48,20 +48,20 @@ Answering t x = (κs : Lfts 1) × (p : Spot) × answer κs (slice p t, tt) x (sl
 abbrev pub shown : Page → List ℕ
 shown x = take x.length x.bytes
 
-abbrev pub Numbering : List ℕ → ℕ → ℕ → ℕ → ℕ → Field → Type 0
+abbrev pub Numbering : List ℕ → ℕ → ℕ → ℕ → ℕ → Result Got Stuck → Type 0
 Numbering t a l m b x = (κs : Lfts 1) × (p : Spot) × number κs (slice p t, (a, (l, (m, (b, tt))))) x (slice p t, (a, (l, (m, (b, tt)))))
 
-abbrev pub Expecting : List ℕ → ℕ → ℕ → Step → Type 0
+abbrev pub Expecting : List ℕ → ℕ → ℕ → Result ℕ Stuck → Type 0
 Expecting t a b x = (κs : Lfts 1) × (p : Spot) × expect κs (slice p t, (a, (b, tt))) x (slice p t, (a, (b, tt)))
 
-abbrev pub Ending : List ℕ → ℕ → ℕ → Step → Type 0
+abbrev pub Ending : List ℕ → ℕ → ℕ → Result ℕ Stuck → Type 0
 Ending t a b x = (κs : Lfts 1) × (p : Spot) × ending κs (slice p t, (a, (b, tt))) x (slice p t, (a, (b, tt)))
 
 abbrev pub LevelNumber : Level → ℕ → Type 0
 LevelNumber l x = level_number tt (l, tt) x (l, tt)
 
 abbrev pub JobOf : List ℕ → Job → Type 0
-JobOf l x = job_of tt (l, tt) x (l, tt)
+JobOf l x = (κs : Lfts 1) × (p : Spot) × job_of κs (slice p l, tt) x (slice p l, tt)
 
 abbrev pub NoJob : Job → Type 0
 NoJob x = no_job tt tt x tt
