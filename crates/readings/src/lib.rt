@@ -14,10 +14,7 @@ use model::{Job, Level, Order, Reading, Refusal, Set, TEXT};
 pub fn level_number(l: Level) -> usize
     ensures { result ≡ level_number l }
 {
-    match l {
-        Level::Lo => 0,
-        Level::Hi => 1,
-    }
+    l as usize
 }
 
 // The job that a line says: `A D level LO HI`.
