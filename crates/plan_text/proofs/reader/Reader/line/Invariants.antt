@@ -1,6 +1,10 @@
--- `line` meets its contract. The invariant: the scan of the line is that of what is left of it, the numbers before place i having been read.
-use Rattle.plan_text.proofs.Rows.{Begun}
+-- `line` meets its contract. The invariant: the numbers before place i have been read.
+use mathlib.Core.List.{[]}
+use Rattle.forms.specs.Forms.{row}
+use Rattle.plan_text.specs.Parts.{limits}
+use Rattle.plan_text.proofs.Rows.{row_from}
+use Rattle.plan_text.proofs.Several.{Begun}
 use Rattle.plan_text.proofs.reader.Reader.line.Given as goal
 
 abbrev pub invariant-loop-i : goal.invariant-loop-i
-invariant-loop-i l = Begun l.initial.self l.n l.level l.self l.values l.i
+invariant-loop-i l = Begun (row (limits l.level l.n) []) (row_from l.level l.n) l.initial.self l.n l.self l.values l.i
