@@ -1,7 +1,7 @@
 // The reader of the plan text (document 01, "Plan text and program").
 #![tactic(auto)]
 
-ghost use Rattle.std.specs.Prelude.{◌≡◌, ◌≤◌, length};
+ghost use Rattle.std.specs.Prelude.{◌≡◌};
 ghost use Rattle.model.specs.Texts.{ones, Reads};
 ghost use Rattle.plan_text.specs.Parts.{PlanRead};
 
@@ -13,8 +13,8 @@ use reader::Reader;
 use readings::{answer, level_number, no_job, refused};
 
 // How many of the jobs are HI jobs.
+#[tactic(auto, using(crate::proofs::Jobs::ones_sum))]
 fn hi_jobs(jobs: &[Job]) -> usize
-    requires { length jobs.now ≤ 64 }
     ensures { result ≡ ones jobs.now }
 {
     jobs.iter().map(|job| level_number(job.level)).sum()
