@@ -5,7 +5,6 @@
 --   more-ends, number-ends     == the text ends
 --   more_stops, more-done      == the byte is no further digit; it is the one behind the number
 --   number_stops, number-goes  == the byte is no first digit; it is one
---   begins-digit, grows-digit  == what the tests of a byte say
 -- Assumes nothing.
 use Prim.Native.Nat.{ℕ, ◌+◌, ◌-◌, ◌*◌, ◌≤◌, ◌<◌}
 use mathlib.Core.Path.{◌≡◌, sym, ◌∙◌, ap}
@@ -14,12 +13,11 @@ use mathlib.Core.List.{List, ◌∷◌}
 use Rattle.std.specs.Prelude.{Result, Ok, Err}
 use native.Mathlib.Numerals.{add-one}
 use native.Mathlib.Omega.{arith}
-use borrow.Author.Tests.{eq-eqb, ne_eqb, leb-true}
+use borrow.Author.Tests.{eq-eqb, ne_eqb}
 use lib.ListN.{length, get_or, drop, drop_of_length-le}
 use lib.Seq.{drop-cons, drop-length}
-use lib.Dec.{leb, ltb}
-use Rattle.laws.proofs.Bools.{and_l, and_r}
 use Rattle.forms.specs.Forms.{begins, grows, more, number}
+use Rattle.forms.proofs.Numbers.{grows_e}
 use Rattle.fields.specs.declared.Got.{Got}
 use Rattle.fields.specs.declared.Stuck.{Stuck}
 use Rattle.fields.specs.Cursors.{piece_at, reached, Found}
@@ -27,17 +25,6 @@ use Rattle.fields.specs.Cursors.{piece_at, reached, Found}
 -- the text from a cursor that stands before its end
 pub here : (t : List ℕ) (i : ℕ) → i < length t → drop i t ≡ get_or t i 0 ∷ drop (i + 1) t
 here t i h = rw (add-one i) (drop-cons t i 0 h)
-
-pub begins-digit : (least most b : ℕ) → begins least most b ≡ true → 48 ≤ b
-unfolding begins
-begins-digit least most b h = leb-true 48 b (and_l (leb 48 b) _ h)
-
-pub grows-digit : (most n b : ℕ) → grows most n b ≡ true → (48 ≤ b) × (b ≤ 57) × (n * 10 + (b - 48) ≤ most)
-unfolding grows
-grows-digit most n b h =
-    let u = and_r (leb 48 b) _ h in
-    let v = and_r (ltb 0 n) _ (and_r (leb b 57) _ u) in
-    (leb-true 48 b (and_l (leb 48 b) _ h), leb-true b 57 (and_l (leb b 57) _ u), leb-true (n * 10 + (b - 48)) most v)
 
 module _ (t : List ℕ) (at most c n : ℕ) where
   -- what is read from the cursor i on, behind the digits of v, is what is to be found
@@ -77,7 +64,7 @@ module _ (t : List ℕ) (at most c n : ℕ) where
         more-next m f =
             record {
               same = sym (sym g.same ∙ rw (here t i h, ne_eqb (get_or t i 0) c e, f));
-              small = omega (arith, grows-digit most v (get_or t i 0) f);
+              small = omega (arith, grows_e most v (get_or t i 0) f);
             }
 
 module _ (t : List ℕ) (at least most c : ℕ) where

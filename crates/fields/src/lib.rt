@@ -1,5 +1,6 @@
 // The pieces of a plan text that stand between two places of it: a number, and given bytes. A function answers the place where the text goes on, or
-// the one where it is stuck; a place past the text's end counts as its end.
+// the one where it is stuck; a place past the text's end counts as its end. A text and a place are two parameters: what is promised here is of any
+// text and any place of it (ground: number_one, expect_one, ending_one). Where both travel on, they are the Reader of plan_text.
 #![tactic(auto)]
 
 ghost use Rattle.std.specs.Prelude.{◌≡◌, [], ◌∷◌};
@@ -35,7 +36,7 @@ fn grows(most: u16, n: u16, b: u8) -> bool
     b.is_ascii_digit() && n != 0 && u32::from(n) * 10 + u32::from(b - b'0') <= u32::from(most)
 }
 
-// The number whose digits up to `at` are those of n, up to the byte `behind`.
+// The number whose digits up to `at` are those of n, up to the byte `behind`. The loop counts places, since the answer is one.
 fn more(text: &[u8], at: usize, most: u16, behind: u8, n: u16) -> Result<Got, Stuck>
     ensures { Found text.now at (more most behind n) result }
 {

@@ -14,8 +14,7 @@ use Rattle.std.proofs.lemmas.Result.{IfErr-at_err}
 use Rattle.laws.proofs.Bools.{split}
 use Rattle.forms.specs.Forms.{Form, scan, then, begins, grows, more, number}
 use Rattle.forms.specs.Forms.Piece.{got, short}
-use Rattle.forms.proofs.Numbers.{begins_e}
-use Rattle.fields.proofs.Digits.{grows-digit}
+use Rattle.forms.proofs.Numbers.{begins_e, grows_e}
 use Rattle.forms.specs.Forms.Form.{field}
 use Rattle.fields.specs.declared.Got.{Got}
 use Rattle.fields.specs.declared.Stuck.{Stuck}
@@ -62,7 +61,7 @@ more_most most c v (b ∷ t) n u h e =
     (λ y. let z : v ≡ n = (let k : got v t ≡ got n u = rw y at e in cc) in omega arith)
     (λ y.
     split (grows most v b)
-    (λ g. more_most most c (v * 10 + (b - 48)) t n u (grows-digit most v b g).2 (rw (y, g) at e))
+    (λ g. more_most most c (v * 10 + (b - 48)) t n u (grows_e most v b g).3 (rw (y, g) at e))
     (λ g. let k : short (b ∷ t) ≡ got n u = rw (y, g) at e in cc))
 
 -- a number that is read lies in its range

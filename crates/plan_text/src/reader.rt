@@ -1,4 +1,4 @@
-// The reader of a text: it stands at a place, and each part that it reads takes it on behind that part.
+// The reader of a text: it stands at a place of it, and each part that is read takes it on behind that part.
 ghost use Rattle.std.specs.Prelude.{◌+◌, ◌≤◌, ◌<◌, ◌≡◌, [], length, IfOk};
 ghost use Rattle.forms.specs.Forms.{count, row, jobs as job_lines, order as order_form, job_limits, job_of as job_said};
 ghost use Rattle.forms.specs.Forms.Form.{field};

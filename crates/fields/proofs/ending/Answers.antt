@@ -1,15 +1,13 @@
 -- `ending` meets its contract: the byte, then the line feed. Assumes nothing.
-use Rattle.std.proofs.lemmas.Result.{err_from_is_err_and}
 use Rattle.forms.specs.Forms.{bytes, lf}
 use Rattle.forms.specs.Forms.Form.{byte}
-use Rattle.fields.proofs.Given.{stuck-before, goes_on}
+use Rattle.fields.proofs.Given.{exit, stuck-before, goes_on}
 use Rattle.fields.proofs.ending.Goals as goal
 
 pub returns-in_err-expect : goal.returns-in_err-expect
 unfolding bytes lf
 returns-in_err-expect c =
-    let p = err_from_is_err_and c.from_residual.result c.from_residual.ensures.1 in
-    rw (p.1, p.2) (stuck-before _ _ _ (byte 10) _ c.expect.ensures _ c.in_err-expect.was)
+    rw (exit _ _ c.from_residual.ensures.1) (stuck-before _ _ _ (byte 10) _ c.expect.ensures _ c.in_err-expect.was)
 
 pub returns : goal.returns
 unfolding bytes lf

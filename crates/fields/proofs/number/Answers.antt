@@ -1,6 +1,7 @@
 -- `number` meets its contract: the first digit is looked at here, the others by `more`. Assumes nothing.
 use mathlib.Core.Path.{sym, ◌∙◌}
-use Rattle.fields.proofs.Digits.{number-ends, number_stops, number-goes, begins-digit}
+use Rattle.forms.proofs.Numbers.{begins_e}
+use Rattle.fields.proofs.Digits.{number-ends, number_stops, number-goes}
 use Rattle.fields.proofs.number.Goals as goal
 
 pub returns-in_default : goal.returns-in_default
@@ -12,7 +13,7 @@ returns-then-not-begins c =
     number_stops _ _ _ _ _ h (rw (← e 0) (sym c.begins.ensures ∙ c.if-not-begins.true))
 
 pub overflow_sub-b : goal.overflow_sub-b
-overflow_sub-b c = begins-digit _ _ _ (sym c.begins.ensures ∙ c.if-not-begins.false)
+overflow_sub-b c = (begins_e _ _ _ (sym c.begins.ensures ∙ c.if-not-begins.false)).0
 
 pub returns : goal.returns
 returns c =

@@ -6,10 +6,10 @@ use lib.ListN.{length, replicate}
 use lib.Seq.{length-take-le}
 use Rattle.std.specs.Prelude.{Ok}
 use Rattle.std.proofs.lemmas.List.{take_at}
-use Rattle.std.proofs.lemmas.Result.{err_from_is_err_and}
 use Rattle.model.specs.Texts.{ones}
 use Rattle.forms.specs.Forms.{sections}
 use Rattle.forms.specs.Forms.Form.{field}
+use Rattle.fields.proofs.Given.{exit}
 use Rattle.plan_text.proofs.Jobs.{ones_most}
 use Rattle.plan_text.proofs.Plans.{Stands, stands_first, stands_on, stands_stuck, orders, jobs_read, jobs_stuck, lo_read, lo_stuck, hi_read, hi_stuck, ended, more_stands}
 use Rattle.plan_text.proofs.plan.Goals as goal
@@ -27,23 +27,20 @@ as_many c = c.jobs.auto.jobs ∙ length-take-le _ _ (few c)
 
 pub returns-in_err-number : goal.returns-in_err-number
 returns-in_err-number c =
-    let p = err_from_is_err_and c.from_residual.result c.from_residual.ensures.1 in
-    rw (p.1, p.2) (stands_stuck _ _ (field 1 64 10) sections (stands_first c.args.text) _ _ _ c.number.ensures.read _ c.in_err-number.was)
+    rw (exit _ _ c.from_residual.ensures.1) (stands_stuck _ _ (field 1 64 10) sections (stands_first c.args.text) _ _ _ c.number.ensures.read _ c.in_err-number.was)
 
 pub returns-in_err-jobs : goal.returns-in_err-jobs
 returns-in_err-jobs c =
-    let p = err_from_is_err_and c.from_residual-in_err-jobs.result c.from_residual-in_err-jobs.ensures.1 in
     let b = (goal.at.returns-in_err-jobs c).After-jobs in
-    rw (p.1, p.2) (jobs_stuck _ _ _ (counted b) _ (length-take-le _ _ (few b)) _ _ _ c.jobs.ensures _ c.in_err-jobs.was)
+    rw (exit _ _ c.from_residual-in_err-jobs.ensures.1) (jobs_stuck _ _ _ (counted b) _ (length-take-le _ _ (few b)) _ _ _ c.jobs.ensures _ c.in_err-jobs.was)
 
 listed : (c : After-jobs) (x : Unit {0}) → c.jobs.result ≡ Ok x → Stands c.args.text.now c.jobs.new.self (orders c.from-count.result c.jobs.new.jobs)
 listed c x e = jobs_read _ _ _ (counted c) _ (length-take-le _ _ (few c)) _ _ _ c.jobs.ensures x e
 
 pub returns-in_err-lo : goal.returns-in_err-lo
 returns-in_err-lo c =
-    let p = err_from_is_err_and c.from_residual-in_err-lo.result c.from_residual-in_err-lo.ensures.1 in
     let b = (goal.at.returns-in_err-lo c).After-jobs in
-    rw (p.1, p.2) (lo_stuck _ _ _ _ (listed b _ c.in_ok-jobs.was) _ _ c.order.ensures _ c.in_err-lo.was)
+    rw (exit _ _ c.from_residual-in_err-lo.ensures.1) (lo_stuck _ _ _ _ (listed b _ c.in_ok-jobs.was) _ _ c.order.ensures _ c.in_err-lo.was)
 
 pub order-requires-2 : goal.order-requires-2
 order-requires-2 c =
@@ -53,19 +50,17 @@ order-requires-2 c =
 
 pub returns-in_err-hi : goal.returns-in_err-hi
 returns-in_err-hi c =
-    let p = err_from_is_err_and c.from_residual-in_err-hi.result c.from_residual-in_err-hi.ensures.1 in
     let b = (goal.at.returns-in_err-hi c).After-jobs in
     let l = lo_read _ _ _ _ (listed b _ c.in_ok-jobs.was) _ _ c.order.ensures _ c.in_ok-lo.was in
-    rw (p.1, p.2)
+    rw (exit _ _ c.from_residual-in_err-hi.ensures.1)
     (hi_stuck _ _ _ _ l _ (c.hi_jobs.ensures ∙ ap ones (take_at _ _ _ (as_many b))) _ _ c.order-2.ensures _ c.in_err-hi.was)
 
 pub returns-in_err-end : goal.returns-in_err-end
 returns-in_err-end c =
-    let p = err_from_is_err_and c.from_residual-in_err-end.result c.from_residual-in_err-end.ensures.1 in
     let b = (goal.at.returns-in_err-end c).After-jobs in
     let l = lo_read _ _ _ _ (listed b _ c.in_ok-jobs.was) _ _ c.order.ensures _ c.in_ok-lo.was in
     let h = hi_read _ _ _ _ l _ (c.hi_jobs.ensures ∙ ap ones (take_at _ _ _ (as_many b))) _ _ c.order-2.ensures _ c.in_ok-hi.was in
-    rw (p.1, p.2) (more_stands _ _ _ h _ c.end.ensures _ c.in_err-end.was)
+    rw (exit _ _ c.from_residual-in_err-end.ensures.1) (more_stands _ _ _ h _ c.end.ensures _ c.in_err-end.was)
 
 pub returns : goal.returns
 returns c =

@@ -1,9 +1,9 @@
 -- `count` meets its contract: the first of two digits, then the last and the line feed. Assumes nothing.
 use mathlib.Core.Path.{refl}
 use native.Mathlib.Omega.{arith}
-use Rattle.std.proofs.lemmas.Result.{err_from_is_err_and}
 use Rattle.forms.specs.Forms.{count}
 use Rattle.fields.specs.Cursors.{Steps}
+use Rattle.fields.proofs.Given.{exit}
 use Rattle.plan_text.proofs.Counts.{one_digit, stuck_digit, last_digit}
 use Rattle.plan_text.proofs.Steps.{given_stuck, given_read}
 use Rattle.plan_text.proofs.reader.Reader.count.Goals as goal
@@ -19,13 +19,11 @@ told c =
 
 pub returns-in_err-at : goal.returns-in_err-at
 returns-in_err-at c =
-    let p = err_from_is_err_and c.from_residual.result c.from_residual.ensures.1 in
-    rw (p.1, p.2) (given_stuck _ (count c.args.n) _ (stuck_digit _ _ _ c.if-n-lt10.false (omega arith) _ c.expect.ensures _ c.in_err-at.was) _ refl)
+    rw (exit _ _ c.from_residual.ensures.1) (given_stuck _ (count c.args.n) _ (stuck_digit _ _ _ c.if-n-lt10.false (omega arith) _ c.expect.ensures _ c.in_err-at.was) _ refl)
 
 pub returns-in_err-self : goal.returns-in_err-self
 returns-in_err-self c =
-    let p = err_from_is_err_and c.from_residual-in_err-self.result c.from_residual-in_err-self.ensures.1 in
-    rw (p.1, p.2) (given_stuck _ (count c.args.n) _ (told (goal.at.returns-in_err-self c).After-ending) _ c.in_err-self.was)
+    rw (exit _ _ c.from_residual-in_err-self.ensures.1) (given_stuck _ (count c.args.n) _ (told (goal.at.returns-in_err-self c).After-ending) _ c.in_err-self.was)
 
 pub returns : goal.returns
 returns c = given_read _ (count c.args.n) _ (told (goal.at.returns c).After-ending) _ c.in_ok-self.was

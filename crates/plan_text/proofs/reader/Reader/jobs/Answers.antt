@@ -1,6 +1,6 @@
 use mathlib.Core.Path.{refl}
 use native.Mathlib.Omega.{arith}
-use Rattle.std.proofs.lemmas.Result.{err_from_is_err_and}
+use Rattle.fields.proofs.Given.{exit}
 use Rattle.plan_text.proofs.Jobs.{jobs_whole, jobs_first, jobs_none}
 use Rattle.plan_text.proofs.Several.{begun, one_more, one_stuck, all_read}
 use Rattle.plan_text.proofs.reader.Reader.jobs.Goals as goal
@@ -10,8 +10,7 @@ loop-job-init c = begun _ _ _ _ (jobs_whole _) _ refl
 
 pub returns-in_err-job : goal.returns-in_err-job
 returns-in_err-job c =
-    let p = err_from_is_err_and c.from_residual.result c.from_residual.ensures.1 in
-    rw (p.1, p.2) (one_stuck _ _ _ _ _ _ _ c.loop-job.invariant _ (jobs_first _ _ c.loop-job-test.true) _ _ c.job.ensures _ c.in_err-job.was _)
+    rw (exit _ _ c.from_residual.ensures.1) (one_stuck _ _ _ _ _ _ _ c.loop-job.invariant _ (jobs_first _ _ c.loop-job-test.true) _ _ c.job.ensures _ c.in_err-job.was _)
 
 pub loop-job-preserved : goal.loop-job-preserved
 loop-job-preserved c =

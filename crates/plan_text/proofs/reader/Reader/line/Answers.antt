@@ -1,6 +1,6 @@
 use mathlib.Core.Path.{refl}
 use native.Mathlib.Omega.{arith}
-use Rattle.std.proofs.lemmas.Result.{err_from_is_err_and}
+use Rattle.fields.proofs.Given.{exit}
 use Rattle.plan_text.proofs.Rows.{row_whole, row_first, row_none}
 use Rattle.plan_text.proofs.Several.{begun, one_more, one_stuck, all_read}
 use Rattle.plan_text.proofs.reader.Reader.line.Goals as goal
@@ -10,8 +10,7 @@ loop-i-init c = begun _ _ _ _ (row_whole _ _) _ refl
 
 pub returns-in_err-value : goal.returns-in_err-value
 returns-in_err-value c =
-    let p = err_from_is_err_and c.from_residual.result c.from_residual.ensures.1 in
-    rw (p.1, p.2)
+    rw (exit _ _ c.from_residual.ensures.1)
     (one_stuck _ _ _ _ _ _ _ c.loop-i.invariant _ (row_first _ _ _ _ _ c.loop-i-test.true c.limit_at.ensures c.behind_at.ensures) _ _ c.number.ensures.read _ c.in_err-value.was _)
 
 pub loop-i-preserved : goal.loop-i-preserved
