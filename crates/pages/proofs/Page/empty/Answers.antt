@@ -1,7 +1,7 @@
--- `empty_page` meets its contract: room of 1,024 bytes, all 0, none of them written.
+-- `empty` meets its contract: room of 1,024 bytes, all 0, none of them written.
 use mathlib.Core.Path.{refl}
 use Rattle.pages.specs.Pages.{size, page}
-use Rattle.pages.proofs.empty_page.Goals as goal
+use Rattle.pages.proofs.Page.empty.Goals as goal
 
 pub returns : goal.returns
 unfolding page size
