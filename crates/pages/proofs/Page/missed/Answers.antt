@@ -9,5 +9,16 @@ use Rattle.pages.proofs.Page.missed.Goals as goal
 pub returns : goal.returns
 unfolding miss_line unfit_word fit_word fields
 returns c =
-    rw (c.with_byte.ensures, c.with_field-3.ensures, c.with_field-2.ensures, c.with_field.ensures, c.with_bytes.ensures, c.empty.ensures)
-    (rw (c.scenario_number.ensures, c.from.ensures, c.from-2.ensures) (simp (put-page, append_assoc)))
+    simp (
+      c.with_byte.ensures,
+      c.with_field-3.ensures,
+      c.with_field-2.ensures,
+      c.with_field.ensures,
+      c.with_bytes.ensures,
+      c.empty.ensures,
+      c.scenario_number.ensures,
+      c.from.ensures,
+      c.from-2.ensures,
+      put-page,
+      append_assoc,
+    )

@@ -8,5 +8,13 @@ use Rattle.pages.proofs.Page.refused.Goals as goal
 pub returns : goal.returns
 unfolding refused_text refused_word fields
 returns c =
-    rw (c.with_byte.ensures, c.with_field-2.ensures, c.with_field.ensures, c.with_bytes.ensures, c.empty.ensures, c.from-number.ensures)
-    (simp (put-page, append_assoc))
+    simp (
+      c.with_byte.ensures,
+      c.with_field-2.ensures,
+      c.with_field.ensures,
+      c.with_bytes.ensures,
+      c.empty.ensures,
+      c.from-number.ensures,
+      put-page,
+      append_assoc,
+    )

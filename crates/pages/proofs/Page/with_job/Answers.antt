@@ -8,5 +8,13 @@ use Rattle.pages.proofs.Page.with_job.Goals as goal
 pub returns : goal.returns
 unfolding job_line fields
 returns c =
-    rw (c.with_byte.ensures, c.with_margin.ensures, c.with_field.ensures, c.with_decimal.ensures, c.from-finish.ensures, c.from.ensures)
-    (simp (put-append, append_assoc))
+    simp (
+      c.with_byte.ensures,
+      c.with_margin.ensures,
+      c.with_field.ensures,
+      c.with_decimal.ensures,
+      c.from-finish.ensures,
+      c.from.ensures,
+      put-append,
+      append_assoc,
+    )
