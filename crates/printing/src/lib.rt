@@ -15,7 +15,6 @@ use analysis::assess;
 use lines::{fit_page, unfit_page};
 use model::{GOOD, Reading, Set, Verdict};
 use pages::Page;
-use pages::lines::refused_page;
 use plan_text::read;
 
 // The answer to a set that was read: what refuses it, or its verdict.
@@ -23,16 +22,10 @@ fn judged_page(s: Set) -> Page
     ensures { result ≡ page (judged_text (view s) (judged (view s)).judgement (judged (view s)).times) }
 {
     let a = assess(s);
-    let j = a.judged;
-    let judgement = j.judgement;
-    let times = j.times;
-    let worsts = a.worsts;
-    match judgement {
-        Err(refusal) => refused_page(refusal),
-        Ok(verdict) => match verdict {
-            Verdict::Fit => fit_page(s, worsts),
-            Verdict::Unfit(miss) => unfit_page(s, miss, times),
-        },
+    match a.judged.judgement {
+        Err(refusal) => Page::refused(refusal),
+        Ok(Verdict::Fit) => fit_page(&s, &a.worsts),
+        Ok(Verdict::Unfit(miss)) => unfit_page(&s, miss, &a.judged.times),
     }
 }
 
@@ -40,12 +33,11 @@ fn judged_page(s: Set) -> Page
 fn page_of(q: Reading) -> Page
     ensures { result ≡ page (printed q) }
 {
-    let refusal = q.refusal;
-    if refusal.number != GOOD {
-        return refused_page(refusal);
+    if q.refusal.number == GOOD {
+        judged_page(q.set)
+    } else {
+        Page::refused(q.refusal)
     }
-    let s = q.set;
-    judged_page(s)
 }
 
 // What the program prints for a text.

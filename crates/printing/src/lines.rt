@@ -11,61 +11,52 @@ ghost use Rattle.printing.specs.Lines.{job_lines};
 
 use checks::span_of;
 use model::{Miss, Set};
-use pages::lines::{miss_page, with_job};
-use pages::{Page, empty_page, with_byte, with_bytes, with_decimal, with_field};
+use pages::Page;
 
 // The lines of all jobs.
-fn with_jobs(p: Page, s: Set, worsts: [u16; 64]) -> Page
-    requires { (is_good (refusal (view s)) ≡ true) × (worsts ≡ worsts_of (view s)) }
-    ensures { result ≡ put p (job_lines (view s) (members (view s).policy)) }
+fn with_jobs(page: Page, s: &Set, worsts: &[u16; 64]) -> Page
+    requires { (is_good (refusal (view s.now)) ≡ true) × (worsts.now ≡ worsts_of (view s.now)) }
+    ensures { result ≡ put page (job_lines (view s.now) (members (view s.now).policy)) }
 {
-    let n = s.count;
-    let mut q = p;
-    let mut i: usize = 0;
-    while i < n {
-        let job = s.jobs[i];
-        let next = with_job(q, (i + 1) as u64, worsts[i], job.deadline);
-        q = next;
-        i += 1;
-    }
-    q
+    s.jobs[..s.count]
+        .iter()
+        .zip(worsts)
+        .enumerate()
+        .fold(page, |page, (i, (job, &worst))| {
+            page.with_job(i as u64 + 1, worst, job.deadline)
+        })
 }
 
 // "FIT and the span; then for each job its number, worst finish and margin."
-pub fn fit_page(s: Set, worsts: [u16; 64]) -> Page
-    requires { (is_good (refusal (view s)) ≡ true) × (worsts ≡ worsts_of (view s)) }
-    ensures { result ≡ page (fit_text (view s)) }
+pub fn fit_page(s: &Set, worsts: &[u16; 64]) -> Page
+    requires { (is_good (refusal (view s.now)) ≡ true) × (worsts.now ≡ worsts_of (view s.now)) }
+    ensures { result ≡ page (fit_text (view s.now)) }
 {
-    let word = with_bytes(empty_page(), b"FIT");
-    let head = with_byte(with_field(word, span_of(s)), 10);
+    let head = Page::empty()
+        .with_bytes(b"FIT")
+        .with_field(span_of(*s))
+        .with_byte(b'\n');
     with_jobs(head, s, worsts)
 }
 
-fn wide(x: u16) -> u64
-    ensures { result ≡ x }
-{
-    x as u64
-}
-
 // "One line of the N running times in job order."
-fn with_times(p: Page, times: [u16; 64], n: usize) -> Page
-    requires { (1 ≤ n) × (n ≤ 64) }
-    ensures { result ≡ put p (line (map (λ j. at times j 0) (from 1 n))) }
+fn with_times(page: Page, times: &[u16]) -> Page
+    ensures { result ≡ put page (line times.now) }
 {
-    let mut q = with_decimal(p, wide(times[0]));
-    let mut i: usize = 1;
-    while i < n {
-        let next = with_field(q, wide(times[i]));
-        q = next;
-        i += 1;
-    }
-    with_byte(q, 10)
+    let Some((first, others)) = times.split_first() else {
+        return page.with_byte(b'\n');
+    };
+    let start = page.with_decimal(u64::from(*first));
+    others
+        .iter()
+        .fold(start, |page, &time| page.with_field(u64::from(time)))
+        .with_byte(b'\n')
 }
 
 // "An unfit set gives `UNFIT scenario job finish` and one line of the N running times in job order."
-pub fn unfit_page(s: Set, m: Miss, times: [u16; 64]) -> Page
-    requires { is_good (refusal (view s)) ≡ true }
-    ensures { result ≡ page (unfit_text (view s) m times) }
+pub fn unfit_page(s: &Set, m: Miss, times: &[u16; 64]) -> Page
+    requires { is_good (refusal (view s.now)) ≡ true }
+    ensures { result ≡ page (unfit_text (view s.now) m times.now) }
 {
-    with_times(miss_page(m), times, s.count)
+    with_times(Page::missed(m), &times[..s.count])
 }

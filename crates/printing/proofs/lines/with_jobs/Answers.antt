@@ -1,23 +1,20 @@
-use mathlib.Core.Path.{◌∙◌, ap}
+-- `with_jobs` meets its contract: the line of one job after the other.
+use Rattle.std.proofs.Common.{rules, ◌∙◌}
+use Rattle.std.proofs.lemmas.Iterator.{YieldsList-from_slice, YieldsList-from_zip}
+use Rattle.std.proofs.lemmas.Iterator.Consumers.{fold_from_yields_List, YieldsList-from_enumerate}
 use native.Mathlib.Omega.{arith}
-use lib.ListN.{get_or}
-use Rattle.model.specs.Sets.{blank, job}
-use Rattle.printing.proofs.JobLaws.{good-count, worst-at, deadline-at, jobs-start, jobs-turn, jobs-end}
+use lib.ListN.{take}
+use Rattle.printing.proofs.JobLaws.{good-count, one_line, jobs_put}
 use Rattle.printing.proofs.lines.with_jobs.Goals as goal
 
-pub loop-i-init : goal.loop-i-init
-loop-i-init c = (omega arith, (good-count _ c.requires.0).1, jobs-start _ c.requires.0 _)
-
-pub loop-i-preserved : goal.loop-i-preserved
-unfolding blank job
-loop-i-preserved c = let s = c.args.s in
-    let i = c.loop-i.i in
-    let h = c.loop-i-test.true in (
-      omega arith,
-      c.loop-i.invariant.1,
-      jobs-turn _ _ _ _ _ h c.loop-i.invariant.2 _ _ (ap (λ w. get_or w i 0) c.requires.1 ∙ worst-at s c.requires.0 i h) (deadline-at s i h)
-          c.with_job-next.ensures,
-    )
+pub shared_ref_as_front-iter : goal.shared_ref_as_front-iter
+shared_ref_as_front-iter c = (good-count _ c.requires.0).1
 
 pub returns : goal.returns
-returns c = jobs-end _ _ _ _ c.loop-i-test.false c.loop-i.invariant.2
+returns c =
+    let s = c.args.s.now in
+    let w = c.args.worsts.now in
+    fold_from_yields_List _ one_line _ _ c.fold.ensures.ran
+    (YieldsList-from_enumerate (YieldsList-from_zip (YieldsList-from_slice (take s.count s.jobs) cc) (YieldsList-from_slice w cc)) (cc))
+    (λ a x b q k. search rules)
+    ∙ jobs_put s c.requires.0 (omega arith) w c.requires.1 (search rules) c.args.page
