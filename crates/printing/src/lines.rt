@@ -43,12 +43,11 @@ pub fn fit_page(s: &Set, worsts: &[u16; 64]) -> Page
 fn with_times(page: Page, times: &[u16]) -> Page
     ensures { result ≡ put page (line times.now) }
 {
-    let Some((first, others)) = times.split_first() else {
+    let Some((first, rest)) = times.split_first() else {
         return page.with_byte(b'\n');
     };
     let start = page.with_decimal(u64::from(*first));
-    others
-        .iter()
+    rest.iter()
         .fold(start, |page, &time| page.with_field(u64::from(time)))
         .with_byte(b'\n')
 }

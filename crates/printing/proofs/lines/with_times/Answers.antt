@@ -1,4 +1,4 @@
--- `with_times` meets its contract: the first time, then the others.
+-- `with_times` meets its contract: the first time, then the rest.
 use Rattle.std.specs.Prelude.{◌≡◌, [], ◌∷◌}
 use Rattle.std.proofs.Common.{rules}
 use Rattle.std.proofs.lemmas.List.{nil_from_length}
@@ -15,6 +15,6 @@ returns-in_default c = let e : c.args.times.now ≡ [] = nil_from_length _ c.in_
 
 pub returns : goal.returns
 returns c =
-    let e : c.args.times.now ≡ c.in-Some.first.now ∷ c.in-Some.others.now = c.in-Some.ensures.cases.0 in
-    let f = fold_from_yields_List _ (λ p t. put p (32 ∷ decimal t)) _ _ c.fold.ensures.ran (YieldsList-from_slice c.in-Some.others.now cc) (λ a x b q k. search rules) in
+    let e : c.args.times.now ≡ c.in-Some.first.now ∷ c.in-Some.rest.now = c.in-Some.ensures.cases.0 in
+    let f = fold_from_yields_List _ (λ p t. put p (32 ∷ decimal t)) _ _ c.fold.ensures.ran (YieldsList-from_slice c.in-Some.rest.now cc) (λ a x b q k. search rules) in
     rw (c.with_byte-2.ensures, f, c.with_decimal-start.ensures, c.from.ensures, e) (times_put _ _ _)
