@@ -20,7 +20,7 @@ use Rattle.pages.specs.declared.Page.{Page}
 use Rattle.pages.specs.Pages.{page}
 use Rattle.ground.specs.Texts.{Reading, Answering, Numbering, Expecting, Ending}
 use Rattle.ground.specs.Texts.{LevelNumber, JobOf, NoJob, NoSet, MadeOf, RefusedAt}
-use Rattle.ground.specs.Texts.{EmptyPage, WithByte, WithBytes, WithDecimal, WithField, WithMargin, RefusedPage, MissPage, WithJob}
+use Rattle.ground.specs.Texts.{EmptyPage, WithByte, WithBytes, WithDecimal, WithField, WithMargin, RefusedPage, MissPage, WithJob, Shows}
 use Rattle.ground.proofs.OneAnswer.{one}
 
 -- plan_text and printing ------------------------------------------------------------------------------------------------------------
@@ -97,3 +97,7 @@ module _ (x y : Page) where
 
   pub with_job_one : (l : Page) (j w d : ℕ) → WithJob l j w d x → WithJob l j w d y → x ≡ y
   with_job_one l j w d p q = one p q
+
+-- What a page shows.
+pub shown_one : (p : Page) (l m : List ℕ) → Shows p l → Shows p m → l ≡ m
+shown_one p l m a b = one a.3 b.3

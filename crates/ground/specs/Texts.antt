@@ -6,6 +6,7 @@
 --   Numbering t a l m b x  == `number`, at the place a, from l to m, with the byte b behind it;  Expecting, Ending: given bytes
 --   LevelNumber, JobOf, NoJob, NoSet, MadeOf, RefusedAt   == those of the readings
 --   EmptyPage, WithByte, WithBytes, WithDecimal, WithField, WithMargin, RefusedPage, MissPage, WithJob   == those of the pages
+--   Shows p l            == the page p, lent to be read, may show the bytes l
 use Rattle.std.specs.Prelude.{ℕ, List, take, Result}
 use contract.Lifetimes.{Lfts}
 use Rattle.model.specs.declared.Level.{Level}
@@ -27,17 +28,18 @@ use Rattle.readings.proofs.no_set.Reads.{Post as no_set}
 use Rattle.readings.proofs.answer.Reads.{Post as made}
 use Rattle.readings.proofs.refused.Reads.{Post as refused}
 use Rattle.plan_text.proofs.read.Reads.{Post as read}
-use Rattle.pages.proofs.empty_page.Reads.{Post as empty_page}
-use Rattle.pages.proofs.with_byte.Reads.{Post as with_byte}
-use Rattle.pages.proofs.with_bytes.Reads.{Post as with_bytes}
-use Rattle.pages.proofs.with_decimal.Reads.{Post as with_decimal}
-use Rattle.pages.proofs.with_field.Reads.{Post as with_field}
-use Rattle.pages.proofs.with_margin.Reads.{Post as with_margin}
-use Rattle.pages.proofs.lines.refused_page.Reads.{Post as refused_page}
-use Rattle.pages.proofs.lines.miss_page.Reads.{Post as miss_page}
-use Rattle.pages.proofs.lines.with_job.Reads.{Post as with_job}
+use Rattle.pages.proofs.Page.empty.Reads.{Post as empty_page}
+use Rattle.pages.proofs.Page.with_byte.Reads.{Post as with_byte}
+use Rattle.pages.proofs.Page.with_bytes.Reads.{Post as with_bytes}
+use Rattle.pages.proofs.Page.with_decimal.Reads.{Post as with_decimal}
+use Rattle.pages.proofs.Page.with_field.Reads.{Post as with_field}
+use Rattle.pages.proofs.Page.with_margin.Reads.{Post as with_margin}
+use Rattle.pages.proofs.Page.refused.Reads.{Post as refused_page}
+use Rattle.pages.proofs.Page.missed.Reads.{Post as miss_page}
+use Rattle.pages.proofs.Page.with_job.Reads.{Post as with_job}
+use Rattle.pages.proofs.Page.shown.Reads.{Post as page_shown}
 use Rattle.printing.proofs.answer.Reads.{Post as answer}
-use Rattle.ground.specs.Promises.{Spot, slice}
+use Rattle.ground.specs.Promises.{Spot, lent, slice}
 
 abbrev pub Reading : List ℕ → ReadingOf → Type 0
 Reading t x = (κs : Lfts 1) × (p : Spot) × read κs (slice p t, tt) x (slice p t, tt)
@@ -101,3 +103,6 @@ MissPage m x = miss_page tt (m, tt) x (m, tt)
 
 abbrev pub WithJob : Page → ℕ → ℕ → ℕ → Page → Type 0
 WithJob p j w d x = with_job tt (p, (j, (w, (d, tt)))) x (p, (j, (w, (d, tt))))
+
+abbrev pub Shows : Page → List ℕ → Type 0
+Shows p l = (κs : Lfts 1) × (q r : Spot) × page_shown κs (lent q p, tt) (slice r l) (lent q p, tt)
