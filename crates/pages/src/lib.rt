@@ -9,6 +9,8 @@ ghost use Rattle.pages.specs.Pages.{page, put};
 
 pub mod lines;
 
+use itoa::Buffer;
+
 // The first `length` bytes are to be printed; the others are 0.
 #[derive(Clone, Copy)]
 pub struct Page {
@@ -45,16 +47,11 @@ impl Page {
         text.iter().fold(self, |page, &byte| page.with_byte(byte))
     }
 
-    // A number, in decimal: its digits but the last, then the last.
+    // A number, in decimal.
     pub fn with_decimal(self, n: u64) -> Page
         ensures { result ≡ put self (decimal n) }
     {
-        let front = if n < 10 {
-            self
-        } else {
-            self.with_decimal(n / 10)
-        };
-        front.with_byte(b'0' + (n % 10) as u8)
+        self.with_bytes(Buffer::new().format(n).as_bytes())
     }
 
     // A number behind a space.
