@@ -3,6 +3,7 @@
 
 ghost use Rattle.std.specs.Prelude.{◌≡◌};
 ghost use Rattle.model.specs.Refusals.{told};
+ghost use Rattle.model.specs.Printed.{scenario_number};
 
 // A job's level of criticality. The mode of a run is one of the same two.
 #[derive(Clone, Copy, PartialEq, Eq)]
@@ -109,6 +110,18 @@ pub struct Ran {
 pub enum Scenario {
     Lo,
     Hi(u16),
+}
+
+// The number by which a scenario is told: 0 for LO, else its job.
+impl From<Scenario> for u16 {
+    ghost from_gives = { λ x n. n ≡ scenario_number x };
+
+    fn from(x: Scenario) -> u16 {
+        match x {
+            Scenario::Lo => 0,
+            Scenario::Hi(job) => job,
+        }
+    }
 }
 
 // A required deadline that a scenario misses.

@@ -1,20 +1,11 @@
 // The lines of the answers: a refusal, a miss, one job.
 ghost use Rattle.std.specs.Prelude.{◌≡◌};
-ghost use Rattle.model.specs.Printed.{refused_text, scenario_number};
+ghost use Rattle.model.specs.Printed.{refused_text};
 ghost use Rattle.pages.specs.Pages.{page, put};
 ghost use Rattle.pages.specs.Lines.{job_line, miss_line};
 
 use crate::Page;
-use model::{Miss, Refusal, Scenario};
-
-fn scenario_number(x: Scenario) -> u64
-    ensures { result ≡ scenario_number x }
-{
-    match x {
-        Scenario::Lo => 0,
-        Scenario::Hi(job) => u64::from(job),
-    }
-}
+use model::{Miss, Refusal};
 
 impl Page {
     // "A refusal gives `REFUSED number place`."
@@ -35,7 +26,7 @@ impl Page {
     {
         Page::empty()
             .with_bytes(b"UNFIT")
-            .with_field(scenario_number(m.scenario))
+            .with_field(u64::from(u16::from(m.scenario)))
             .with_field(u64::from(m.job))
             .with_field(u64::from(m.finish))
             .with_byte(b'\n')

@@ -16,9 +16,10 @@ returns c =
       c.with_field.ensures,
       c.with_bytes.ensures,
       c.empty.ensures,
-      c.scenario_number.ensures,
-      c.from.ensures,
       c.from-2.ensures,
+      c.from.ensures,
+      c.from-3.ensures,
+      c.from-4.ensures,
       put-page,
       append_assoc,
     )
