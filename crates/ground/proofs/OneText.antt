@@ -9,6 +9,7 @@ use Rattle.model.specs.declared.Level.{Level}
 use Rattle.model.specs.declared.Job.{Job}
 use Rattle.model.specs.declared.Set.{Set}
 use Rattle.model.specs.declared.Refusal.{Refusal}
+use Rattle.model.specs.declared.Scenario.{Scenario}
 use Rattle.model.specs.declared.Miss.{Miss}
 use Rattle.model.specs.declared.Reading.{Reading as ReadingOf}
 use Rattle.model.specs.Printed.{printed}
@@ -20,7 +21,7 @@ use Rattle.pages.specs.declared.Page.{Page}
 use Rattle.pages.specs.Pages.{page}
 use Rattle.ground.specs.Texts.{Reading, Answering, Numbering, Expecting, Ending}
 use Rattle.ground.specs.Texts.{LevelNumber, JobOf, NoJob, NoSet, MadeOf, RefusedAt}
-use Rattle.ground.specs.Texts.{EmptyPage, WithByte, WithBytes, WithDecimal, WithField, WithMargin, RefusedPage, MissPage, WithJob, Shows}
+use Rattle.ground.specs.Texts.{EmptyPage, WithByte, WithBytes, WithDecimal, WithField, WithMargin, RefusedPage, MissPage, WithJob, Shows, ScenarioNumber}
 use Rattle.ground.proofs.OneAnswer.{one}
 
 -- plan_text and printing ------------------------------------------------------------------------------------------------------------
@@ -101,3 +102,7 @@ module _ (x y : Page) where
 -- What a page shows.
 pub shown_one : (p : Page) (l m : List ℕ) → Shows p l → Shows p m → l ≡ m
 shown_one p l m a b = one a.3 b.3
+
+-- The number of a scenario.
+pub scenario_number_one : (x : Scenario) (m n : ℕ) → ScenarioNumber x m → ScenarioNumber x n → m ≡ n
+scenario_number_one x m n p q = one p q

@@ -7,12 +7,14 @@
 --   LevelNumber, JobOf, NoJob, NoSet, MadeOf, RefusedAt   == those of the readings
 --   EmptyPage, WithByte, WithBytes, WithDecimal, WithField, WithMargin, RefusedPage, MissPage, WithJob   == those of the pages
 --   Shows p l            == the page p, lent to be read, may show the bytes l
+--   ScenarioNumber x n   == `from` may tell the scenario x as n
 use Rattle.std.specs.Prelude.{ℕ, List, take, Result}
 use contract.Lifetimes.{Lfts}
 use Rattle.model.specs.declared.Level.{Level}
 use Rattle.model.specs.declared.Job.{Job}
 use Rattle.model.specs.declared.Set.{Set}
 use Rattle.model.specs.declared.Refusal.{Refusal}
+use Rattle.model.specs.declared.Scenario.{Scenario}
 use Rattle.model.specs.declared.Miss.{Miss}
 use Rattle.model.specs.declared.Reading.{Reading as ReadingOf}
 use Rattle.fields.specs.declared.Got.{Got}
@@ -28,6 +30,7 @@ use Rattle.readings.proofs.no_set.Reads.{Post as no_set}
 use Rattle.readings.proofs.answer.Reads.{Post as made}
 use Rattle.readings.proofs.refused.Reads.{Post as refused}
 use Rattle.plan_text.proofs.read.Reads.{Post as read}
+use Rattle.model.proofs.U16FromScenario.from.Reads.{Post as scenario_number}
 use Rattle.pages.proofs.Page.empty.Reads.{Post as empty_page}
 use Rattle.pages.proofs.Page.with_byte.Reads.{Post as with_byte}
 use Rattle.pages.proofs.Page.with_bytes.Reads.{Post as with_bytes}
@@ -106,3 +109,6 @@ WithJob p j w d x = with_job tt (p, (j, (w, (d, tt)))) x (p, (j, (w, (d, tt))))
 
 abbrev pub Shows : Page → List ℕ → Type 0
 Shows p l = (κs : Lfts 1) × (q r : Spot) × page_shown κs (lent q p, tt) (slice r l) (lent q p, tt)
+
+abbrev pub ScenarioNumber : Scenario → ℕ → Type 0
+ScenarioNumber x n = scenario_number tt (x, tt) n (x, tt)
