@@ -18,23 +18,23 @@ use pages::Page;
 use plan_text::read;
 
 // The answer to a set that was read: what refuses it, or its verdict.
-fn judged_page(s: Set) -> Page
-    ensures { result ≡ page (judged_text (view s) (judged (view s)).judgement (judged (view s)).times) }
+fn judged_page(s: &Set) -> Page
+    ensures { result ≡ page (judged_text (view s.now) (judged (view s.now)).judgement (judged (view s.now)).times) }
 {
-    let a = assess(s);
+    let a = assess(*s);
     match a.judged.judgement {
         Err(refusal) => Page::refused(refusal),
-        Ok(Verdict::Fit) => fit_page(&s, &a.worsts),
-        Ok(Verdict::Unfit(miss)) => unfit_page(&s, miss, &a.judged.times),
+        Ok(Verdict::Fit) => fit_page(s, &a.worsts),
+        Ok(Verdict::Unfit(miss)) => unfit_page(s, miss, &a.judged.times),
     }
 }
 
 // The answer to what was read of a text.
-fn page_of(q: Reading) -> Page
-    ensures { result ≡ page (printed q) }
+fn page_of(q: &Reading) -> Page
+    ensures { result ≡ page (printed q.now) }
 {
     if q.refusal.number == GOOD {
-        judged_page(q.set)
+        judged_page(&q.set)
     } else {
         Page::refused(q.refusal)
     }
@@ -44,5 +44,5 @@ fn page_of(q: Reading) -> Page
 pub fn answer(text: &[u8]) -> Page
     ensures { (q : ReadingOf) × Reads text.now q × (result ≡ page (printed q)) }
 {
-    page_of(read(text))
+    page_of(&read(text))
 }
