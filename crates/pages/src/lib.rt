@@ -1,5 +1,5 @@
 // Pages: what is to be printed, as a value; the methods that put bytes, numbers and margins behind what a page holds; and the lines of the answers.
-// Every function is total: what finds no room on the page is left out.
+// Every function is total: what finds no room on the page is left out. None is `write!`, which promises what it wrote only where it does not fail.
 #![tactic(auto)]
 
 ghost use Rattle.std.specs.Prelude.{◌≡◌, [], ◌∷◌, pos, ◌-ℤ◌, take};
