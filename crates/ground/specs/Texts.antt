@@ -3,11 +3,11 @@
 --   Reading t x          == `read` may answer x for the bytes t, by its promise
 --   Answering t x        == `answer` of the printing may answer the page x for the bytes t
 --   shown x              == what the page x says is to be printed: the first bytes of its array, as many as its length
+--   Shows p l            == the page p, lent to be read, may show the bytes l, by the promise of `shown`
+--   ScenarioNumber x n   == `from` may tell the scenario x as n
 --   Numbering t a l m b x  == `number`, at the place a, from l to m, with the byte b behind it;  Expecting, Ending: given bytes
 --   LevelNumber, JobOf, NoJob, NoSet, MadeOf, RefusedAt   == those of the readings
 --   EmptyPage, WithByte, WithBytes, WithDecimal, WithField, WithMargin, RefusedPage, MissPage, WithJob   == those of the pages
---   Shows p l            == the page p, lent to be read, may show the bytes l
---   ScenarioNumber x n   == `from` may tell the scenario x as n
 use Rattle.std.specs.Prelude.{ℕ, List, take, Result}
 use contract.Lifetimes.{Lfts}
 use Rattle.model.specs.declared.Level.{Level}
@@ -106,6 +106,9 @@ MissPage m x = miss_page tt (m, tt) x (m, tt)
 
 abbrev pub WithJob : Page → ℕ → ℕ → ℕ → Page → Type 0
 WithJob p j w d x = with_job tt (p, (j, (w, (d, tt)))) x (p, (j, (w, (d, tt))))
+
+abbrev lent : {A : Type 0} → Spot → A → Bor A
+lent p x = record { ref_ptr = p.0; now = x }
 
 abbrev pub Shows : Page → List ℕ → Type 0
 Shows p l = (κs : Lfts 1) × (q r : Spot) × page_shown κs (lent q p, tt) (slice r l) (lent q p, tt)
