@@ -107,9 +107,6 @@ MissPage m x = miss_page tt (m, tt) x (m, tt)
 abbrev pub WithJob : Page → ℕ → ℕ → ℕ → Page → Type 0
 WithJob p j w d x = with_job tt (p, (j, (w, (d, tt)))) x (p, (j, (w, (d, tt))))
 
-abbrev lent : {A : Type 0} → Spot → A → Bor A
-lent p x = record { ref_ptr = p.0; now = x }
-
 abbrev pub Shows : Page → List ℕ → Type 0
 Shows p l = (κs : Lfts 1) × (q r : Spot) × page_shown κs (lent q p, tt) (slice r l) (lent q p, tt)
 
