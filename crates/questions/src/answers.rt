@@ -1,4 +1,11 @@
 // The answers to the questions.
+ghost use Rattle.std.specs.Prelude.{◌≡◌, ◌∷◌, Ok, OnOk, false, decimal};
+ghost use Rattle.std.specs.Io.KnownBytes.{Appends};
+ghost use Rattle.model.specs.Sets.{view, span};
+ghost use Rattle.model.specs.Refusals.{refusal};
+ghost use Rattle.answer_text.specs.Words.{refusal_words};
+ghost use Rattle.questions.specs.Questions.{asks, first};
+
 use crate::lent::{write_part, write_tables};
 use crate::question::Question;
 use answer_text::{Gets, Switch, Words, of_jobs, rows};
@@ -51,7 +58,11 @@ fn write_pick<W: Write>(out: &mut W, set: &Set, slot: u16, done: &[bool]) -> io:
 
 // Gives a writer the answer to a question, without the end of its last line. Each further line begins with the bytes of `begin`.
 // A line that asks no question has no answer.
-pub fn answer<W: Write>(out: &mut W, begin: &[u8], question: &[u8], set: &Set) -> io::Result<()> {
+pub fn answer<W: Write>(out: &mut W, begin: &[u8], question: &[u8], set: &Set) -> io::Result<()>
+    ensures none { asks question.now ≡ false → out.new ≡ out.old }
+    ensures checks { first question.now ≡ 99 → OnOk result (Appends (W.contents out.old) (W.contents out.new) (32 ∷ refusal_words (refusal (view set.now)))) }
+    ensures span { first question.now ≡ 115 → OnOk result (Appends (W.contents out.old) (W.contents out.new) (32 ∷ decimal (span (view set.now)))) }
+{
     let Some(question) = Question::parse(question) else {
         return Ok(());
     };

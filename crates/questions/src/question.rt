@@ -9,6 +9,8 @@
 //   tables in M and N         of both tables, made in lent room of M and N entries that held 7, the refusal and all of the room, a line each
 //   part from T of N          of the HI table, made in room of N entries that held 7, the part from instant T, and the companion refusal
 //   at T done F ..            who gets slot T by the LO order, where F is 1 for a job that is done
+ghost use Rattle.std.specs.Prelude.{◌≡◌, None, Some, false};
+
 use arrayvec::ArrayVec;
 use case_text::{Numbers, nth, numbers_in, short, shorts};
 
@@ -28,8 +30,15 @@ pub enum Question {
 }
 
 impl Question {
+    ghost use Rattle.questions.specs.Questions.{asks, first};
+    ghost use Rattle.questions.specs.declared.question.Question.TheVariants.{Checks, Span};
+
     // The question that a line asks: its first letter says which.
-    pub fn parse(line: &[u8]) -> Option<Question> {
+    pub fn parse(line: &[u8]) -> Option<Question>
+        ensures none { asks line.now ≡ false → result ≡ None }
+        ensures checks { first line.now ≡ 99 → result ≡ Some Checks }
+        ensures span { first line.now ≡ 115 → result ≡ Some Span }
+    {
         let numbers = numbers_in(line);
         match line.first()? {
             b'c' => Some(Question::Checks),
