@@ -13,7 +13,7 @@ use readings::{job_of, no_set};
 
 // Adds the jobs of a line to the set, while there is room.
 fn add_jobs(set: &mut Set, numbers: &Numbers) {
-    let job = job_of(shorts(numbers));
+    let job = job_of(&shorts(numbers));
     for _ in 0..nth(numbers, 5).clamp(1, 64) {
         if let Some(place) = set.jobs.get_mut(set.count) {
             *place = job;

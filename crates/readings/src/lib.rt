@@ -17,18 +17,18 @@ pub fn level_number(l: Level) -> usize
     l as usize
 }
 
-// The job that a line says: `A D level LO HI`.
+// The job that a line says: `A D level LO HI`. A number that it lacks is 0.
 #[tactic(auto, unfolding(forms::specs::Forms::job_of, forms::specs::Forms::level_of, model::specs::Sets::job))]
 pub fn job_of(values: &[u16]) -> Job
-    requires { 5 ≤ length values.now }
     ensures { result ≡ job_of values.now }
 {
+    let value = |i: usize| values.get(i).copied().unwrap_or(0);
     Job {
-        arrival: values[0],
-        deadline: values[1],
-        level: if values[2] == 0 { Level::Lo } else { Level::Hi },
-        lo: values[3],
-        hi: values[4],
+        arrival: value(0),
+        deadline: value(1),
+        level: if value(2) == 0 { Level::Lo } else { Level::Hi },
+        lo: value(3),
+        hi: value(4),
     }
 }
 
