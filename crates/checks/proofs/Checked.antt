@@ -2,7 +2,7 @@
 --   exit          == what the exit of a `?` returns
 --   passes        == Ok: the refusal is good
 --   refused       == Err: it is the refusal, which is not good
---   refusal_good  == a refusal that is good has place 0;  told-checked: so a check's result, told as an answer, is the refusal
+--   first_good    == a first refusal that is good has place 0;  refusal_good: so has a set's;  told-checked: so a check's result, told as an answer, is the refusal
 -- Assumes nothing.
 use mathlib.Core.Path.{◌≡◌, refl, sym}
 use mathlib.Core.Bool.{true, false}
