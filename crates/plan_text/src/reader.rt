@@ -43,7 +43,7 @@ impl Reader<'_> {
         Ok(got.value)
     }
 
-    // The line of a count that is determined.
+    // The line of a count that is determined. (`as`: that n fits a byte is proved, so there is no error to handle.)
     fn count(&mut self, n: usize) -> Result<(), Stuck>
         requires { n ≤ 64 }
         ensures { Takes self.old (λ f. count n (f tt)) self.new (λ x. x) result }

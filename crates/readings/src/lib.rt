@@ -63,7 +63,7 @@ pub fn no_set() -> Set
     }
 }
 
-// An answer: the refusal's number and place, and the set.
+// An answer: the refusal's number and place, and the set. (`as`: there is no u64::from(usize).)
 #[tactic(auto, unfolding(crate::specs::Readings::answer))]
 pub fn answer(number: u8, place: usize, set: Set) -> Reading
     ensures { result ≡ answer number place set }
