@@ -4,7 +4,7 @@
 --   few, some, sound   == it has 64 jobs at most, and one at least, and is sound
 --   place_is           == so it is in a list with a place for each job
 -- Assumes nothing.
-use Prim.Native.Nat.{ℕ, suc, ◌≤◌, ◌<◌}
+use Prim.Native.Nat.{ℕ, suc, ◌≤◌, ◌<◌, min}
 use mathlib.Core.Path.{◌≡◌, refl, sym, ◌∙◌, ap}
 use mathlib.Core.Bool.{Bool, true, cond}
 use mathlib.Core.List.{List}
@@ -45,10 +45,10 @@ module _ (s : Set) where
   part_e j a = (omega (tests, and_l (leb 1 j) (leb j s.count) a), omega (tests, and_r (leb 1 j) (leb j s.count) a))
 
 -- l are the jobs that take part
-module _ (s : Set) (l : List Job) (e : l ≡ take s.count s.jobs) (i : ℕ) (q : i < s.count) where
+module _ (s : Set) (l : List Job) (e : l ≡ take (min s.count 64) s.jobs) (i : ℕ) (q : i < min s.count 64) where
   job_is : get_or l i blank ≡ job_at s (suc i)
   job_is =
-      ap (λ m. get_or m i blank) e ∙ get_or-take s.count s.jobs i blank q ∙ sym (job_at_lem s i q) ∙ ap (job_at s) (add-one i)
+      ap (λ m. get_or m i blank) e ∙ get_or-take (min s.count 64) s.jobs i blank q ∙ sym (job_at_lem s i (omega arith)) ∙ ap (job_at s) (add-one i)
 
   pub critical_is : (b : Bool) → b ≡ sameb the_type (get_or l i blank).level Hi → b ≡ critical (view s).policy (suc i)
   unfolding view critical

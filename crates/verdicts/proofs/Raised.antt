@@ -4,7 +4,7 @@
 --   raises, stays            == the time of a job in a HI scenario, by its level and the finishes;  raised_test: when it is raised
 --   times-lo, times-hi       == the times of a scenario, from those of each job
 -- Assumes nothing.
-use Prim.Native.Nat.{ℕ, suc, ◌+◌, ◌-◌, ◌≤◌, ◌<◌}
+use Prim.Native.Nat.{ℕ, suc, ◌+◌, ◌-◌, ◌≤◌, ◌<◌, min}
 use mathlib.Core.Path.{◌≡◌, refl, sym, ◌∙◌, ap}
 use mathlib.Core.Bool.{Bool, true, false, cond, not, ◌&&◌, ◌||◌}
 use mathlib.Core.List.{List}
@@ -28,7 +28,7 @@ use Rattle.laws.proofs.Turns.{place-time, done-turn, hi-mark}
 use Rattle.model.specs.declared.Set.{Set}
 use Rattle.verdicts.proofs.Entries.{part_is, part_e, sound}
 use Rattle.verdicts.specs.Tests.{IsScenario, time_in}
-use Rattle.laws.proofs.Fill.{up_to, up_to-places}
+use Rattle.laws.proofs.Fill.{up_to, up_to-end, up_to-places}
 
 not_leb : (m n : ℕ) → not (leb m n) ≡ ltb n m
 not_leb m n =
@@ -82,14 +82,14 @@ module _ (s : Set) (g : is_good (refusal (view s)) ≡ true) (ends : List ℕ) (
         (λ c. time_is false (rw c refl))
 
 -- a loop that has filled the times of each job has filled those of the scenario
-module _ (s : Set) (times : List ℕ) (i : ℕ) (z : i ≡ s.count) where
+module _ (s : Set) (times : List ℕ) (i : ℕ) (z : i ≡ min s.count 64) where
   pub times-lo : times ≡ up_to i (view s).policy.lo 0 → times ≡ lo_times (view s)
   unfolding lo_times places view
-  times-lo e = e ∙ ap (λ n. up_to n (view s).policy.lo 0) z ∙ up_to-places s.count (view s).policy.lo 0
+  times-lo e = e ∙ up_to-end i s.count (view s).policy.lo 0 z ∙ up_to-places s.count (view s).policy.lo 0
 
   pub times-hi : (x : ℕ) → times ≡ up_to i (time_in (view s) x) 0 → times ≡ times_of (view s) (Hi x)
   unfolding times_of time_in places view
-  times-hi x e = e ∙ ap (λ n. up_to n (time_in (view s) x) 0) z ∙ up_to-places s.count (time_in (view s) x) 0
+  times-hi x e = e ∙ up_to-end i s.count (time_in (view s) x) 0 z ∙ up_to-places s.count (time_in (view s) x) 0
 
 pub times_lo : (v : View) (y : Scenario) (times : List ℕ) → y ≡ Lo → times ≡ lo_times v → times ≡ times_of v y
 unfolding times_of

@@ -7,16 +7,16 @@ ghost use Rattle.model.specs.Scenarios.{row, lo_times};
 ghost use Rattle.model.specs.Refusals.{is_good, refusal};
 
 use checks::check;
-use model::{Job, Level, Ran, Refusal, Scenario, Set};
+use model::{Level, Ran, Refusal, Scenario, Set};
+use rules::jobs::members;
 use runs::execute;
 
 // The running times of scenario 0: each job's LO budget.
 fn lo_times(set: &Set) -> [u16; 64]
-    requires { set.now.count ≤ 64 }
     ensures { result ≡ lo_times (view set.now) }
 {
     let mut times = [0u16; 64];
-    for (i, job) in set.jobs[..set.count].iter().enumerate() {
+    for (i, job) in members(set).iter().enumerate() {
         times[i] = job.lo;
     }
     times
@@ -32,7 +32,7 @@ pub struct Test {
 }
 
 impl Test {
-    ghost use Rattle.std.specs.Prelude.{◌<◌, ◌+◌, false, length, take, MatchResult};
+    ghost use Rattle.std.specs.Prelude.{◌<◌, ◌+◌, false, MatchResult};
     ghost use Rattle.model.specs.declared.Scenario.TheVariants.{Hi as HiOf};
     ghost use Rattle.model.specs.Scenarios.{times_of};
     ghost use Rattle.runs.specs.Engine.{run_of};
@@ -47,14 +47,6 @@ impl Test {
         Ok(Test { set, ends })
     }
 
-    // The jobs that take part.
-    pub fn jobs(&self) -> &[Job]
-        ensures jobs { result.now ≡ take self.now.set.count self.now.set.jobs }
-        ensures count { length result.now ≡ self.now.set.count }
-    {
-        &self.set.jobs[..self.set.count]
-    }
-
     // The scenario numbered x: 0 is LO, and j is HI of job j, which is one of the set's where j is a HI job.
     pub fn scenario(&self, x: usize) -> Option<Scenario>
         requires { x ≤ self.now.set.count }
@@ -62,7 +54,7 @@ impl Test {
     {
         if x == 0 {
             Some(Scenario::Lo)
-        } else if self.jobs()[x - 1].level == Level::Hi {
+        } else if members(&self.set)[x - 1].level == Level::Hi {
             Some(Scenario::Hi(x as u16))
         } else {
             None
@@ -75,7 +67,7 @@ impl Test {
         requires in_the_set { i < self.now.set.count }
         ensures { result ≡ time_in (view self.now.set) own (i + 1) }
     {
-        let job = &self.jobs()[i];
+        let job = &members(&self.set)[i];
         if job.level == Level::Hi && (i + 1 == own || self.ends[own - 1] < self.ends[i]) {
             job.hi
         } else {

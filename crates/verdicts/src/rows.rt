@@ -7,6 +7,7 @@ ghost use Rattle.verdicts.specs.Rows.{raised_in, margins_in};
 use crate::published::Test;
 use measures::{margin_of, worse};
 use model::Level;
+use rules::jobs::members;
 
 impl Test {
     // The finishes of every scenario: row 0 is LO, and row j that of HI job j.
@@ -27,7 +28,7 @@ impl Test {
     pub fn raise(&self, worsts: &mut [u16; 64], finishes: &[u16; 64])
         ensures { worsts.new ≡ raised_in (view self.now.set) worsts.old finishes.now }
     {
-        for (i, job) in self.jobs().iter().enumerate() {
+        for (i, job) in members(&self.set).iter().enumerate() {
             worsts[i] = worse(job.level == Level::Hi, worsts[i], finishes[i]);
         }
     }
@@ -51,7 +52,7 @@ impl Test {
     {
         let worsts = self.worsts();
         let mut margins = [0i32; 64];
-        for (i, job) in self.jobs().iter().enumerate() {
+        for (i, job) in members(&self.set).iter().enumerate() {
             margins[i] = margin_of(job.deadline, worsts[i]);
         }
         margins

@@ -8,6 +8,7 @@ ghost use Rattle.verdicts.specs.Tests.{IsVerdict, found};
 use crate::published::Test;
 use measures::misses;
 use model::{Assessed, Judged, Level, Miss, Verdict};
+use rules::jobs::members;
 
 impl Test {
     // The verdict, with the times and the worst finishes beside it. A miss leaves the loop over the jobs and the loop over the scenarios together; a
@@ -20,7 +21,7 @@ impl Test {
             for x in 0..=self.set.count {
                 if let Some(scenario) = self.scenario(x) {
                     let ran = self.run(scenario);
-                    for (i, job) in self.jobs().iter().enumerate() {
+                    for (i, job) in members(&self.set).iter().enumerate() {
                         let finish = ran.finishes[i];
                         if misses(job.level == Level::Hi, job.deadline, finish, ran.switch) {
                             break 'search Verdict::Unfit(Miss {

@@ -16,7 +16,7 @@ pub loop-i-preserved : goal.loop-i-preserved
 unfolding blank job
 loop-i-preserved c =
     margins-more _ c.args.self.now.good _ _ _ _ _ c.loop-i.invariant (omega arith) c.worsts-worsts.ensures
-    (deadline_is _ _ c.jobs-job-items.ensures.jobs _ (omega arith))
+    (deadline_is _ _ c.members-job-items.ensures.jobs _ (omega arith))
     (to_z-of_z {w = w32} {z = c.margin_of.result} (record { sfits = c.margin_of.type_inv }) ∙ c.margin_of.ensures)
 
 pub returns : goal.returns

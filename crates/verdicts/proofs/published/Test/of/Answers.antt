@@ -10,9 +10,6 @@ use Rattle.verdicts.proofs.published.Test.of.Goals as goal
 pub returns-in_err-check : goal.returns-in_err-check
 returns-in_err-check c = rw (exit _ _ c.from_residual.ensures.1) (refused _ _ c.in_err-check.ensures)
 
-pub lo_times-requires : goal.lo_times-requires
-lo_times-requires c = few _ (passes _ c.in_ok-check.ensures)
-
 pub invariant_of-result : goal.invariant_of-result
 invariant_of-result c =
     let g = passes _ c.in_ok-check.ensures in

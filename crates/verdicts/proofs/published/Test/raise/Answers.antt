@@ -11,7 +11,7 @@ pub loop-i-preserved : goal.loop-i-preserved
 unfolding blank job
 loop-i-preserved c =
     raise-more _ c.args.self.now.good _ _ _ _ _ _ c.loop-i.invariant (omega arith)
-    (critical_is _ _ c.jobs-job-items.ensures.jobs _ (omega arith) _ c.eq.ensures) c.worse.ensures
+    (critical_is _ _ c.members-job-items.ensures.jobs _ (omega arith) _ c.eq.ensures) c.worse.ensures
 
 pub returns : goal.returns
 returns c = raise_all _ c.args.self.now.good _ _ _ _ c.loop-i.invariant (omega arith)

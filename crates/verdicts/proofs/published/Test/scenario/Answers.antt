@@ -13,9 +13,9 @@ returns-then-x-eq0 c = at-lo _ _ c.if-x-eq0.true
 pub returns-then-eq : goal.returns-then-eq
 unfolding blank job
 returns-then-eq c =
-    at-hi _ _ (omega arith) (sym c.if-eq.true ∙ critical_is _ _ c.jobs.ensures.jobs (c.args.x - 1) (omega arith) _ c.eq.ensures)
+    at-hi _ _ (omega arith) (sym c.if-eq.true ∙ critical_is _ _ c.members.ensures.jobs (c.args.x - 1) (omega arith) _ c.eq.ensures)
 
 pub returns-else-eq : goal.returns-else-eq
 unfolding blank job
 returns-else-eq c =
-    at-none _ _ (omega arith) (sym c.if-eq.false ∙ critical_is _ _ c.jobs.ensures.jobs (c.args.x - 1) (omega arith) _ c.eq.ensures)
+    at-none _ _ (omega arith) (sym c.if-eq.false ∙ critical_is _ _ c.members.ensures.jobs (c.args.x - 1) (omega arith) _ c.eq.ensures)

@@ -18,7 +18,7 @@ pub loop-i-preserved : goal.loop-i-preserved
 unfolding blank job
 loop-i-preserved c =
     let g = c.args.self.now.good in
-    let j = c.jobs-job-items.ensures.jobs in
+    let j = c.members-job-items.ensures.jobs in
     passed_more _ g _ _ c.loop-i.invariant
     (missed-turn _ g _ _ _ _ _ (omega arith) c.run-ran.ensures _
     (critical_is _ _ j _ (omega arith) _ c.eq.ensures) _ (deadline_is _ _ j _ (omega arith)) c.misses.ensures c.if-misses.false)
@@ -44,7 +44,7 @@ left c =
       | then-loop-x-test+in-Some+then-loop-i-test+then-misses w ↦
           let p = w.in-Some.ensures in
           let q : c.loop-x.x ≤ c.args.self.now.set.count = omega arith in
-          let j = w.jobs-job-items.ensures.jobs in
+          let j = w.members-job-items.ensures.jobs in
           turn-miss _ g _ _ c.loop-x.invariant _ p q _ w.run-ran.ensures _ w.loop-i.invariant
           _ (omega arith) _ (critical_is _ _ j _ (omega arith) _ w.eq.ensures) _ (deadline_is _ _ j _ (omega arith)) w.misses.ensures w.if-misses.true _ _
           w.verdict-is
