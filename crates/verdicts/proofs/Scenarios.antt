@@ -1,6 +1,6 @@
 -- The run of a scenario: its times lie in their range, so that it is not refused, and it ends as the model's does.
 --   scenario-range   == the times of a scenario are those of a run
---   scenario-ran     == what its execution answers;  row-ran: its finishes are the scenario's row
+--   scenario-ran     == what its execution answers;  row-ran, ends-ran: its finishes are the scenario's row
 -- Assumes nothing.
 use Prim.Native.Nat.{ℕ}
 use mathlib.Core.Path.{◌≡◌, refl, ◌∙◌, ap}

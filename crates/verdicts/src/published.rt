@@ -22,6 +22,7 @@ fn lo_times(set: &Set) -> [u16; 64]
     times
 }
 
+// `few` follows from `good`, and stands beside it for the sake of each index.
 #[derive(Drop)]
 pub struct Test {
     pub set: Set,
