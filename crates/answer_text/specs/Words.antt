@@ -4,8 +4,10 @@
 --   judgement_words x == the verdict's words, or the refusal's
 --   switch_words x    == the instant, or `never`;  gets_words x: the job, or `idle`
 --   list_words text l == what text gives of each item, a space before each
+--   of_jobs is_none values n == the values of jobs 1 to n, and all where one beyond them is something
 --   table_words l     == a space and each entry, or ` nothing`; of more than 64 entries, which are written by their stretches, nothing is said
-use Rattle.std.specs.Prelude.{ℕ, List, [], ◌∷◌, ◌++◌, Option, None, Some, Result, Ok, Err, codes, decimal, ◌&&◌, eqb, leb, cond, length}
+use Rattle.std.specs.Prelude.{ℕ, List, [], ◌∷◌, ◌++◌, Option, None, Some, Result, Ok, Err, codes, decimal, ◌&&◌, eqb, leb, cond, length, drop, take, Bool}
+use Rattle.std.specs.List.{list_all}
 use Rattle.std.specs.Fmt.{◌++?◌}
 use Rattle.model.specs.declared.Refusal.{Refusal}
 use Rattle.model.specs.declared.Scenario.{Scenario}
@@ -46,3 +48,6 @@ list_words text (x ∷ xs) = Some (codes " ") ++? (text x ++? list_words text xs
 
 abbrev pub table_words : List ℕ → Option (List ℕ)
 table_words l = cond (eqb (length l) 0) (Some (codes " nothing")) (cond (leb (length l) 64) (list_words (λ x. Some (decimal x)) l) None)
+
+abbrev pub of_jobs : {A : Type 0} → (A → Bool) → List A → ℕ → List A
+of_jobs is_none values n = cond (list_all is_none (drop n values)) (take n values) values

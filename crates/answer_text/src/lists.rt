@@ -1,5 +1,7 @@
 // Lists of numbers, a space before each.
-ghost use Rattle.answer_text.specs.Words.{list_words, table_words};
+ghost use Rattle.std.specs.Prelude.{◌≡◌};
+ghost use Rattle.std.specs.List.{list_all};
+ghost use Rattle.answer_text.specs.Words.{list_words, of_jobs, table_words};
 
 use std::fmt;
 
@@ -18,10 +20,19 @@ impl<T: fmt::Display> fmt::Display for List<'_, T> {
     }
 }
 
+// Whether each number is the one that says nothing.
+fn is_blank<T: Copy + PartialEq>(values: &[T], nothing: T) -> bool
+    ensures { result ≡ list_all (λ x. T.eq x nothing) values.now }
+{
+    values.iter().all(|x| *x == nothing)
+}
+
 // The numbers of jobs 1 to n, and all where one beyond them is not 0, which no answer should have.
-pub fn of_jobs<T: Copy + Default + PartialEq>(values: &[T], n: usize) -> List<'_, T> {
+pub fn of_jobs<T: Copy + Default + PartialEq>(values: &[T], n: usize) -> List<'_, T>
+    ensures { (nothing : T) × T.is_default nothing × (result.0.now ≡ of_jobs (λ x. T.eq x nothing) values.now n) }
+{
     let (shown, beyond) = values.split_at(n.min(values.len()));
-    if beyond.iter().all(|x| *x == T::default()) {
+    if is_blank(beyond, T::default()) {
         return List(shown);
     }
     List(values)

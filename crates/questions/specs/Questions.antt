@@ -1,9 +1,7 @@
--- What a line asks, by its first byte, of which an empty line has 0.
---   first l == the first byte of a line;  asks l: a question begins with it
-use Rattle.std.specs.Prelude.{ℕ, Bool, List, ◌||◌, eqb, get_or}
-
-abbrev pub first : List ℕ → ℕ
-first l = get_or l 0 0
+-- What a line asks, by its first byte.
+--   asks l: a question begins with it
+use Rattle.std.specs.Prelude.{ℕ, Bool, List, ◌||◌, eqb}
+use Rattle.case_text.specs.Lines.{first}
 
 -- c, s, j, f, w, m, r, t, p, a
 abbrev pub asks : List ℕ → Bool

@@ -4,7 +4,8 @@ ghost use Rattle.std.specs.Io.KnownBytes.{Appends};
 ghost use Rattle.model.specs.Sets.{view, span};
 ghost use Rattle.model.specs.Refusals.{refusal};
 ghost use Rattle.answer_text.specs.Words.{refusal_words};
-ghost use Rattle.questions.specs.Questions.{asks, first};
+ghost use Rattle.case_text.specs.Lines.{first};
+ghost use Rattle.questions.specs.Questions.{asks};
 
 use crate::lent::{write_part, write_tables};
 use crate::question::Question;

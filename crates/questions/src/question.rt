@@ -30,7 +30,8 @@ pub enum Question {
 }
 
 impl Question {
-    ghost use Rattle.questions.specs.Questions.{asks, first};
+    ghost use Rattle.case_text.specs.Lines.{first};
+    ghost use Rattle.questions.specs.Questions.{asks};
     ghost use Rattle.questions.specs.declared.question.Question.TheVariants.{Checks, Span};
 
     // The question that a line asks: its first letter says which.
