@@ -10,21 +10,16 @@ use Rattle.std.specs.Prelude.{ℕ, List, [], ◌∷◌, ◌++◌, Option, None, 
 use Rattle.std.specs.List.{list_all}
 use Rattle.std.specs.Fmt.{◌++?◌}
 use Rattle.model.specs.declared.Refusal.{Refusal}
-use Rattle.model.specs.declared.Scenario.{Scenario}
-use Rattle.model.specs.declared.Scenario.TheVariants.{Lo, Hi}
 use Rattle.model.specs.declared.Miss.{Miss}
 use Rattle.model.specs.declared.Verdict.{Verdict}
 use Rattle.model.specs.declared.Verdict.TheVariants.{Fit, Unfit}
+use Rattle.model.specs.Printed.{scenario_number}
 
 abbrev pub refusal_words : Refusal → List ℕ
 refusal_words r = cond (eqb r.number 0 && eqb r.place 0) (codes "good") (codes "refused " ++ (decimal r.number ++ (codes " " ++ decimal r.place)))
 
-abbrev pub scenario_words : Scenario → List ℕ
-scenario_words Lo = codes "0"
-scenario_words (Hi j) = decimal j
-
 abbrev pub miss_words : Miss → List ℕ
-miss_words m = codes "UNFIT " ++ (scenario_words m.scenario ++ (codes " " ++ (decimal m.job ++ (codes " " ++ decimal m.finish))))
+miss_words m = codes "UNFIT " ++ (decimal (scenario_number m.scenario) ++ (codes " " ++ (decimal m.job ++ (codes " " ++ decimal m.finish))))
 
 abbrev pub verdict_words : Verdict → List ℕ
 verdict_words Fit = codes "FIT"

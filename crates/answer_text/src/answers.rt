@@ -1,8 +1,8 @@
 // The answers that have words.
 ghost use Rattle.std.specs.Prelude.{Some};
-ghost use Rattle.answer_text.specs.Words.{refusal_words, scenario_words, miss_words, verdict_words, judgement_words, switch_words, gets_words};
+ghost use Rattle.answer_text.specs.Words.{refusal_words, miss_words, verdict_words, judgement_words, switch_words, gets_words};
 
-use model::{Miss, Refusal, Scenario, Verdict};
+use model::{Miss, Refusal, Verdict};
 use std::fmt;
 
 // A refusal, a miss, a verdict or a judgement in words.
@@ -24,18 +24,6 @@ impl fmt::Display for Words<Refusal> {
     }
 }
 
-// The number of a scenario: 0 for LO.
-impl fmt::Display for Words<Scenario> {
-    ghost output = { λ w. Some (scenario_words w.0) };
-
-    fn fmt<W: fmt::Write>(&self, f: &mut fmt::Formatter<W>) -> fmt::Result {
-        match self.0 {
-            Scenario::Lo => write!(f, "0"),
-            Scenario::Hi(job) => write!(f, "{job}"),
-        }
-    }
-}
-
 impl fmt::Display for Words<Miss> {
     ghost output = { λ w. Some (miss_words w.0) };
 
@@ -45,7 +33,7 @@ impl fmt::Display for Words<Miss> {
             job,
             finish,
         } = self.0;
-        write!(f, "UNFIT {} {job} {finish}", Words(scenario))
+        write!(f, "UNFIT {} {job} {finish}", u16::from(scenario))
     }
 }
 

@@ -25,7 +25,7 @@ fn write_printed<W: Write>(out: &mut W, line: &[u8]) -> io::Result<()> {
         }
     }
     out.write_all(b" ")?;
-    out.write_all(page.bytes.get(..page.length).unwrap_or(&[]))
+    out.write_all(page.shown())
 }
 
 // Writes the library's answer to a question on the text of a line, or on a set. `print` asks for what the program prints for the text.
