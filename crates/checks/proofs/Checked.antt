@@ -1,5 +1,4 @@
 -- What the result of a check says of the refusal that it is.
---   exit          == what the exit of a `?` returns
 --   passes        == Ok: the refusal is good
 --   refused       == Err: it is the refusal, which is not good
 --   first_good    == a first refusal that is good has place 0;  refusal_good: so has a set's;  told-checked: so a check's result, told as an answer, is the refusal
@@ -14,9 +13,6 @@ use Rattle.model.specs.declared.Refusal.{Refusal}
 use Rattle.model.specs.Sets.{View}
 use Rattle.model.specs.Refusals.{good, is_good, told, checked, first_of, checks, refusal}
 use Rattle.laws.proofs.Bools.{split, clash}
-
-pub exit : {T : Type 0} (q : Result T Refusal) (x : Refusal) → IsErrAnd q (λ r. r ≡ x) → q ≡ Err x
-exit q x h = let p = err_from_is_err_and q h in rw (p.1, p.2) refl
 
 pub passes : (r : Refusal) → Ok (tt {0}) ≡ checked r → is_good r ≡ true
 unfolding checked

@@ -1,7 +1,6 @@
 -- Given bytes of the text, one after the other.
 --   byte-ends, byte_stops, byte-goes  == the text ends; the byte is another; it is this one
 --   stuck-before, goes_on             == two parts in a row: the first is stuck; the second goes on where it leads
---   exit                              == what the exit of a `?` answers
 -- Assumes nothing.
 use Prim.Native.Nat.{ℕ, ◌+◌, ◌≤◌, ◌<◌}
 use mathlib.Core.Path.{◌≡◌, refl, ◌∙◌, ap}
@@ -32,9 +31,6 @@ module _ (t : List ℕ) (at c : ℕ) where
     pub byte-goes : get_or t at 0 ≡ c → Steps t at (byte c) (Ok (at + 1))
     unfolding scan onward stands
     byte-goes e = record { goes = λ f. rw (here t at h, eq-eqb (get_or t at 0) c e); within = omega arith }
-
-pub exit : {T : Type 0} (r : Result T Stuck) (e : Stuck) → IsErrAnd r (λ d. d ≡ e) → r ≡ Err e
-exit r e h = let p = err_from_is_err_and r h in rw (p.1, p.2) refl
 
 module _ (t : List ℕ) (at : ℕ) (a b : Form → Form) (r : Result ℕ Stuck) (s : Steps t at a r) where
   pub stuck-before : (d : Stuck) → r ≡ Err d → Steps t at (λ f. a (b f)) (Err d)

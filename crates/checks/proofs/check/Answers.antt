@@ -5,7 +5,7 @@ use mathlib.Core.Path.{◌∙◌, ap}
 use Rattle.model.specs.declared.Refusal.{Refusal}
 use Rattle.model.specs.Sets.{View, view}
 use Rattle.model.specs.Refusals.{check_count, check_time, check_budget, check_span, check_lo_order, check_hi_order, checks, checked, refusal}
-use Rattle.checks.proofs.Checked.{exit}
+use Rattle.laws.proofs.Exits.{exit}
 use Rattle.checks.proofs.Firsts.{taken, passed, count_is, counts_fit}
 use Rattle.checks.proofs.check.Goals as goal
 

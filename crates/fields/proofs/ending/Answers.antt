@@ -1,7 +1,8 @@
 -- `ending` meets its contract: the byte, then the line feed. Assumes nothing.
 use Rattle.forms.specs.Forms.{bytes, lf}
 use Rattle.forms.specs.Forms.Form.{byte}
-use Rattle.fields.proofs.Given.{exit, stuck-before, goes_on}
+use Rattle.laws.proofs.Exits.{exit}
+use Rattle.fields.proofs.Given.{stuck-before, goes_on}
 use Rattle.fields.proofs.ending.Goals as goal
 
 pub returns-in_err-expect : goal.returns-in_err-expect

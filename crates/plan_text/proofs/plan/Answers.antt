@@ -9,7 +9,7 @@ use Rattle.std.proofs.lemmas.List.{take_at}
 use Rattle.model.specs.Texts.{ones}
 use Rattle.forms.specs.Forms.{sections}
 use Rattle.forms.specs.Forms.Form.{field}
-use Rattle.fields.proofs.Given.{exit}
+use Rattle.laws.proofs.Exits.{exit}
 use Rattle.plan_text.proofs.Jobs.{ones_most}
 use Rattle.plan_text.proofs.Plans.{Stands, stands_first, stands_on, stands_stuck, orders, jobs_read, jobs_stuck, lo_read, lo_stuck, hi_read, hi_stuck, ended, more_stands}
 use Rattle.plan_text.proofs.plan.Goals as goal

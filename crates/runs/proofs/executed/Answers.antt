@@ -2,7 +2,8 @@
 use Rattle.std.proofs.Common.{rules}
 use mathlib.Core.Path.{◌∙◌, ap}
 use Rattle.model.specs.Refusals.{told}
-use Rattle.checks.proofs.Checked.{exit, passes}
+use Rattle.laws.proofs.Exits.{exit}
+use Rattle.checks.proofs.Checked.{passes}
 use Rattle.columns.specs.Columns.{Prepared}
 use Rattle.runs.specs.Engine.{progress_at}
 use Rattle.runs.specs.Ranges.{answer_of}

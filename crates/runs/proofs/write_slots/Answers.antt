@@ -1,7 +1,8 @@
 -- `write_slots` meets its contract: refused, it leaves the room as it is; else the run's slots are written there.
 use Rattle.std.proofs.Common.{rules}
 use mathlib.Core.Path.{◌∙◌}
-use Rattle.checks.proofs.Checked.{exit, passes}
+use Rattle.laws.proofs.Exits.{exit}
+use Rattle.checks.proofs.Checked.{passes}
 use Rattle.columns.specs.Columns.{Prepared}
 use Rattle.runs.proofs.RangeLaws.{ready}
 use Rattle.runs.proofs.SlotAnswers.{refused_first, refused_room, after_checks, kept, made}

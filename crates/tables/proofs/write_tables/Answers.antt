@@ -2,7 +2,7 @@
 -- made from them.
 use Rattle.std.proofs.Common.{rules}
 use mathlib.Core.Path.{◌∙◌}
-use Rattle.checks.proofs.Checked.{exit}
+use Rattle.laws.proofs.Exits.{exit}
 use Rattle.columns.specs.Columns.{Prepared}
 use Rattle.runs.proofs.RangeLaws.{ready}
 use Rattle.tables.proofs.Answers.{refused_first, after_set, both_fit, lo_made, hi_ready, kept, made}

@@ -4,7 +4,7 @@ use mathlib.Core.Path.{◌∙◌}
 use native.Mathlib.Omega.{arith}
 use Rattle.model.specs.Sets.{view}
 use Rattle.model.specs.Refusals.{check_lo_order, check_hi_order}
-use Rattle.checks.proofs.Checked.{exit}
+use Rattle.laws.proofs.Exits.{exit}
 use Rattle.checks.proofs.Firsts.{taken, passed, lo_is, hi_is}
 use Rattle.checks.proofs.refusals.check_orders.Goals as goal
 

@@ -3,7 +3,7 @@ use mathlib.Core.Path.{refl}
 use native.Mathlib.Omega.{arith}
 use Rattle.forms.specs.Forms.{count}
 use Rattle.fields.specs.Cursors.{Steps}
-use Rattle.fields.proofs.Given.{exit}
+use Rattle.laws.proofs.Exits.{exit}
 use Rattle.plan_text.proofs.Counts.{one_digit, stuck_digit, last_digit}
 use Rattle.plan_text.proofs.Steps.{given_stuck, given_read}
 use Rattle.plan_text.proofs.reader.Reader.count.Goals as goal

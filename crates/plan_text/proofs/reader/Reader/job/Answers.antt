@@ -1,7 +1,7 @@
 -- `job` meets its contract: the line, and what it says. Assumes nothing.
 use mathlib.Core.Path.{sym}
 use Rattle.forms.specs.Forms.{job_limits, job_of}
-use Rattle.fields.proofs.Given.{exit}
+use Rattle.laws.proofs.Exits.{exit}
 use Rattle.plan_text.specs.Parts.{limit_at, limits_from, limits}
 use Rattle.plan_text.proofs.Steps.{stuck_in, gives}
 use Rattle.plan_text.proofs.reader.Reader.job.Goals as goal

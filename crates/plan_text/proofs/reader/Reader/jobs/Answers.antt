@@ -1,6 +1,6 @@
 use mathlib.Core.Path.{refl}
 use native.Mathlib.Omega.{arith}
-use Rattle.fields.proofs.Given.{exit}
+use Rattle.laws.proofs.Exits.{exit}
 use Rattle.plan_text.proofs.Jobs.{jobs_whole, jobs_first, jobs_none}
 use Rattle.plan_text.proofs.Several.{begun, one_more, one_stuck, all_read}
 use Rattle.plan_text.proofs.reader.Reader.jobs.Goals as goal

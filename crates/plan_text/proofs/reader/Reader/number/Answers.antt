@@ -1,5 +1,5 @@
 -- `number` meets its contract: the number is that of `fields`, and the reader stands where it leads. Assumes nothing.
-use Rattle.fields.proofs.Given.{exit}
+use Rattle.laws.proofs.Exits.{exit}
 use Rattle.plan_text.proofs.Steps.{number_stuck, number_read, number_within}
 use Rattle.plan_text.proofs.reader.Reader.number.Goals as goal
 

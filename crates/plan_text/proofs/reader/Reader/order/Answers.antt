@@ -1,7 +1,7 @@
 -- `order` meets its contract: the count's line, then the line of its entries. Assumes nothing.
 use mathlib.Core.Path.{refl, ◌∙◌}
 use lib.Seq.{length-take-le}
-use Rattle.fields.proofs.Given.{exit}
+use Rattle.laws.proofs.Exits.{exit}
 use Rattle.plan_text.proofs.Orders.{count_stuck, line_stuck, order_read}
 use Rattle.plan_text.proofs.reader.Reader.order.Goals as goal
 

@@ -1,6 +1,7 @@
 -- `of` meets its contract: the LO budgets lie in their range, so the run of scenario 0 is not refused.
 use mathlib.Core.Path.{refl}
-use Rattle.checks.proofs.Checked.{exit, passes, refused}
+use Rattle.laws.proofs.Exits.{exit}
+use Rattle.checks.proofs.Checked.{passes, refused}
 use Rattle.model.specs.declared.Scenario.TheVariants.{Lo}
 use Rattle.verdicts.proofs.Entries.{few}
 use Rattle.verdicts.proofs.Raised.{times_lo}
