@@ -1,19 +1,17 @@
 -- The columns of a set spell out the set's own view: what they hold for a number that names no job is what the blank job has.
 --   columns_view      == the view of a set's columns is the set's
---   front             == an order cut at its count, or at its last place, is the same
 --   columns_full      == they have their 64 places
 --   good-counts       == the counts of a set that passes the checks
 --   prepared          == of a set that passes the checks they are what a function that is lent them may ask for
 -- Assumes nothing.
-use Prim.Native.Nat.{ℕ, ◌≤◌, min}
+use Prim.Native.Nat.{ℕ, ◌≤◌}
 use mathlib.Core.Path.{◌≡◌, refl, sym, ◌∙◌, ap, subst}
 use mathlib.Core.Bool.{true, false, cond, ◌&&◌}
-use mathlib.Core.List.{List, map}
+use mathlib.Core.List.{map}
 use native.Mathlib.Omega.{arith}
 use lib.Dec.{leb}
 use lib.ListN.{length, take}
 use borrow.Author.Tests.{lt-leb}
-use Rattle.std.proofs.lemmas.List.{take_min}
 use Rattle.model.specs.declared.Level.{Level}
 use Rattle.model.specs.declared.Level.TheVariants.{Lo, Hi}
 use Rattle.model.specs.declared.Job.{Job}
@@ -50,10 +48,6 @@ level_is : (l : Level) → cond (is_hi l) Hi Lo ≡ l
 unfolding is_hi
 level_is Lo = refl
 level_is Hi = refl
-
--- an order cut at its count, or at its last place
-pub front : (k n : ℕ) (l : List ℕ) → length l ≡ 64 → k ≡ min n 64 → take k l ≡ take n l
-front k n l e h = ap (λ m. take m l) (h ∙ ap (min n) (sym e)) ∙ take_min n l
 
 module _ (s : Set) (n : s.count ≤ 64) where
   column_at : (f : Job → ℕ) → f blank ≡ 0 → (j : ℕ) → at (places (view s) (λ i. f (job_at s i))) j 0 ≡ f (job_at s j)

@@ -22,6 +22,7 @@ pub struct Columns {
 
 impl Columns {
     // The order of a mode, without the room beyond its count.
+    #[tactic(auto, using(std::proofs::lemmas::List::take_min), unfolding(crate::specs::Columns::view_of, crate::specs::Columns::listed, crate::specs::Columns::by_mode))]
     pub fn order(&self, mode: Level) -> &[u16]
         ensures { result.now ≡ (view_of self.now).policy.order mode }
     {

@@ -1,5 +1,4 @@
 -- Laws that the proofs of the runs cite; Room serves the tables too.
-pub mod Account
 pub mod Overruns
 pub mod Starts
 pub mod Steps

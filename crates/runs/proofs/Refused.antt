@@ -1,19 +1,13 @@
 -- Checks one after the other, as `?` has them.
 --   taken, passed, last   == what a list of checks comes to, where the first refuses, where it passes, and where it is alone
 --   told_first            == told as an answer it is the first refusal
---   room_short, room_fits == check 8, of the room lent
 -- Assumes nothing.
 use Rattle.std.specs.Prelude.{Ok, Err}
-use Prim.Native.Nat.{ℕ, ◌≤◌, ◌<◌, min}
 use mathlib.Core.Path.{◌≡◌, refl, sym, ◌∙◌, ap}
 use mathlib.Core.List.{List, [], ◌∷◌}
-use native.Mathlib.Omega.{arith}
-use lib.Dec.{leb}
 use Rattle.model.specs.declared.Refusal.{Refusal}
-use Rattle.model.specs.Sets.{View, span}
-use Rattle.model.specs.Refusals.{good, is_good, told, checked, first_of, check_room}
-use Rattle.laws.proofs.Bools.{tests, split}
-use Rattle.laws.proofs.Refusals.{short-here, short_there, room_enough}
+use Rattle.model.specs.Refusals.{good, is_good, told, checked, first_of}
+use Rattle.laws.proofs.Bools.{split}
 use Rattle.checks.proofs.Checked.{passes, refused, first_good}
 
 module _ (r : Refusal) where
@@ -32,15 +26,3 @@ module _ (r : Refusal) where
 pub told_first : (l : List Refusal) → told (checked (first_of l)) ≡ first_of l
 unfolding checked told
 told_first l = split (is_good (first_of l)) (λ t. rw t (sym (first_good l t))) (λ f. rw f refl)
-
-module _ (v : View) (lo hi n : ℕ) (e : n ≡ span v) where
-  pub room_short : min lo hi < n → Err (record { number = 8; place = n }) ≡ checked (check_room v lo hi)
-  unfolding checked is_good
-  room_short h =
-      split (leb (span v) lo)
-      (λ p. rw (short_there v lo hi (omega (tests, p)), e) refl)
-      (λ p. rw (short-here v lo hi (omega (tests, p)), e) refl)
-
-  pub room_fits : n ≤ min lo hi → Ok tt ≡ checked (check_room v lo hi)
-  unfolding checked is_good good
-  room_fits h = rw (room_enough v lo hi (omega arith) (omega arith)) refl

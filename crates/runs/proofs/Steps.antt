@@ -2,25 +2,22 @@
 --   overrun_is       == rule 1 over the columns is rule 1 of the policy that they spell out
 --   lent_slot        == over columns of 64 places, the pick of the lent lists is the policy's
 --   can_account      == whoever is picked can be accounted
---   mode_lo, mode_hi, mode_switch   == the mode of a slot: LO, HI as before, and HI from now on
+--   rule_1           == so it is over the view of columns
 --   stepped          == the pick of that mode's order, accounted, is the step
 -- Assumes nothing.
 use Rattle.std.specs.Prelude.{Some as Job, None as Idle, Option}
 use Prim.Native.Nat.{ℕ, suc, ◌≤◌}
 use mathlib.Core.Path.{◌≡◌, refl, sym, ◌∙◌, ap}
-use mathlib.Core.Bool.{Bool, true, false, cond, not, ◌&&◌, ◌||◌}
-use denote.Enum.Bare.{sameb}
+use mathlib.Core.Bool.{Bool, true, false, not, ◌&&◌}
 use mathlib.Core.List.{List}
 use native.Mathlib.Omega.{arith}
 use lib.Dec.{eqb, leb}
 use lib.ListN.{length, take}
 use borrow.Author.Tests.{eqb-true, eqb-false, not-true, le-leb}
 use Rattle.model.specs.declared.Level.{Level}
-use Rattle.model.specs.declared.Level.TheVariants.{Lo, Hi}
-use Rattle.model.specs.contracts.Level.{the_type}
 use Rattle.model.specs.declared.State.{State}
 use Rattle.model.specs.Lists.{at, numbers, any, first}
-use Rattle.model.specs.Sets.{is_hi, members, critical}
+use Rattle.model.specs.Sets.{members, critical}
 use Rattle.model.specs.Runs.{overruns, mode_now, ready, pick, slot_now}
 use Rattle.model.specs.Answers.{picked, lent_pick}
 use Rattle.laws.proofs.Bools.{tests, split, and_l, and_r, and_i, and_no_r, not_i_false, same}
@@ -106,39 +103,10 @@ module _ (n : ℕ) (a : List ℕ) (k : List Bool) (l lo hi : List ℕ) where
       (and_i (le-leb 1 r.0 (omega arith)) (le-leb r.0 n (omega arith))))
       (overruns-over s r.0 ∙ r.2))
 
--- the mode, by the mode before and by rule 1
-in_lo : (m : Level) (b : Bool) → sameb the_type m Lo ≡ true → b ≡ false → Lo ≡ cond (is_hi m || b) Hi Lo
-unfolding is_hi
-in_lo Lo b e z = rw z refl
-in_lo Hi b e z = cc
-
-in_hi : (m : Level) (b : Bool) → sameb the_type m Lo ≡ false → Hi ≡ cond (is_hi m || b) Hi Lo
-unfolding is_hi
-in_hi Lo b e = cc
-in_hi Hi b e = refl
-
-turned : (m : Level) (b : Bool) → b ≡ true → Hi ≡ cond (is_hi m || b) Hi Lo
-unfolding is_hi
-turned Lo b z = rw z refl
-turned Hi b z = refl
-
-module _ (k : Columns) (n : k.n ≤ 64) (s : State) where
-  rule_1 : any (overruns (view_of k).policy s) (members (view_of k).policy) ≡ any_overrun k.n k.critical k.lo s.had s.done
-  unfolding view_of
-  rule_1 = overrun_is k.n k.arrivals k.critical k.lo (take k.n k.lo_order) (take k.m k.hi_order) s n
-
-  pub mode_lo : (b : Bool) → sameb the_type s.mode Lo ≡ true → b ≡ any_overrun k.n k.critical k.lo s.had s.done → b ≡ false
-      → Lo ≡ mode_now (view_of k).policy s
-  unfolding mode_now
-  mode_lo b e f z = in_lo s.mode (any (overruns (view_of k).policy s) (members (view_of k).policy)) e (rule_1 ∙ sym f ∙ z)
-
-  pub mode_hi : sameb the_type s.mode Lo ≡ false → Hi ≡ mode_now (view_of k).policy s
-  unfolding mode_now
-  mode_hi e = in_hi s.mode (any (overruns (view_of k).policy s) (members (view_of k).policy)) e
-
-  pub mode_switch : (b : Bool) → b ≡ any_overrun k.n k.critical k.lo s.had s.done → b ≡ true → Hi ≡ mode_now (view_of k).policy s
-  unfolding mode_now
-  mode_switch b f z = turned s.mode (any (overruns (view_of k).policy s) (members (view_of k).policy)) (rule_1 ∙ sym f ∙ z)
+pub rule_1 : (k : Columns) (n : k.n ≤ 64) (s : State)
+    → any (overruns (view_of k).policy s) (members (view_of k).policy) ≡ any_overrun k.n k.critical k.lo s.had s.done
+unfolding view_of
+rule_1 k n s = overrun_is k.n k.arrivals k.critical k.lo (take k.n k.lo_order) (take k.m k.hi_order) s n
 
 pub stepped : (k : Columns) (c : List ℕ) (t : ℕ) (g : Progress) (m : Level) (o : List ℕ) (r : Option ℕ) (x : Progress)
     → length k.arrivals ≡ 64 → length g.state.done ≡ 64 → m ≡ mode_now (view_of k).policy g.state → o ≡ (view_of k).policy.order m

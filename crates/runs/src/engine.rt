@@ -42,6 +42,7 @@ impl Progress {
     }
 
     // Accounts slot t, of the job picked, in the mode given.
+    #[tactic(auto, unfolding(crate::specs::Engine::accounted, crate::specs::Engine::given, crate::specs::Engine::slot_of, crate::specs::Engine::switched, crate::specs::Engine::noted, model::specs::Runs::account))]
     fn account(&mut self, job: Option<u16>, mode: Level, times: &[u16; 64], t: u16)
         requires { Accountable self.old job t }
         ensures { self.new ≡ accounted times.now t (slot_of job) mode self.old }
@@ -55,6 +56,7 @@ impl Progress {
     }
 
     // Gives job j the slot t.
+    #[tactic(auto, unfolding(crate::specs::Engine::given, crate::specs::Engine::noted, model::specs::Runs::account, model::specs::Runs::bump, model::specs::Runs::time, model::specs::Lists::at))]
     fn give(&mut self, j: u16, times: &[u16; 64], t: u16)
         requires { (t < 65535) × (1 ≤ j) × (j ≤ 64) × (at self.old.state.had j 0 < 65535) }
         ensures { self.new ≡ given times.now t j self.old }
@@ -89,6 +91,7 @@ impl Run<'_> {
     }
 
     // The mode of the slot at this state: rule 1 may switch it to HI.
+    #[tactic(auto, using(crate::proofs::Steps::rule_1), unfolding(model::specs::Runs::mode_now, model::specs::Sets::is_hi))]
     fn mode_now(&self, state: &State) -> Level
         ensures { result ≡ mode_now (view_of self.now.k.now).policy state.now }
     {
@@ -100,6 +103,7 @@ impl Run<'_> {
     }
 
     // One slot: rule 1, the pick in the present mode's order, and the account.
+    #[tactic(auto, using(crate::proofs::Steps::stepped))]
     fn step(&self, g: &mut Progress, t: u16)
         requires { Steppable g.old t }
         ensures { g.new ≡ next (view_of self.now.k.now).policy self.now.times.now t g.old }

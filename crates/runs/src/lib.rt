@@ -24,6 +24,7 @@ fn span_in(s: &Set) -> u16
 }
 
 // The answer of a run that is refused.
+#[tactic(auto, unfolding(crate::specs::Ranges::not_run, model::specs::Scenarios::zeros))]
 fn not_run(refusal: Refusal) -> Ran
     ensures { result ≡ not_run refusal }
 {
@@ -55,6 +56,7 @@ fn executed(s: &Set, times: &[u16; 64]) -> Result<Ran, Refusal>
 }
 
 // The execution of one given run: each job's finish, 0 for a dropped one, and the switch. Refusal 9 after 2 to 7.
+#[tactic(auto, unfolding(crate::specs::Ranges::answer_of, crate::specs::Ranges::not_run))]
 pub fn execute(s: Set, times: [u16; 64]) -> Ran
     ensures { result ≡ ran (view s) times }
 {
@@ -62,6 +64,7 @@ pub fn execute(s: Set, times: [u16; 64]) -> Ran
 }
 
 // Refuses, by 8, tables of lengths `lo` and `hi` where one of them is shorter than the set's span.
+#[tactic(auto, unfolding(model::specs::Refusals::check_room, model::specs::Refusals::applies, model::specs::Refusals::checked, model::specs::Refusals::is_good, model::specs::Refusals::good))]
 pub fn check_room(s: &Set, lo: usize, hi: usize) -> Result<(), Refusal>
     ensures { result ≡ checked (check_room (view s.now) lo hi) }
 {

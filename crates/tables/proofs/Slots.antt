@@ -1,5 +1,4 @@
 -- The slots of the two tables over the columns, and the slots that each job has had in them.
---   enabled_is        == who is enabled, by what the lists hold
 --   first_found       == the first that passes a test, as `find` has it
 --   counted-..        == one slot more for a job
 --   counts            == after t slots the places are still 64, and none has had more than t
@@ -9,16 +8,15 @@
 use Rattle.std.specs.Prelude.{Option, None, Some}
 use Rattle.std.specs.Option.{option_map, unwrap_or}
 use Rattle.std.specs.List.{find}
-use Prim.Native.Nat.{ℕ, zero, suc, ◌+◌, ◌-◌, ◌≤◌, ◌<◌}
-use mathlib.Core.Path.{◌≡◌, refl, sym, ◌∙◌, ap}
+use Prim.Native.Nat.{ℕ, zero, suc, ◌-◌, ◌≤◌, ◌<◌}
+use mathlib.Core.Path.{◌≡◌, refl, ◌∙◌, ap}
 use mathlib.Core.Bool.{Bool}
 use mathlib.Core.List.{List, [], ◌∷◌}
 use native.Mathlib.Omega.{arith}
-use native.Mathlib.Numerals.{add-one}
 use lib.Dec.{eqb, leb}
-use lib.ListN.{length, get_or, set, length-set, length-replicate, replicate}
+use lib.ListN.{length, get_or, length-set, length-replicate, replicate}
 use lib.Seq.{set_out}
-use borrow.Author.Tests.{ne_eqb, eqb-true, eqb-false}
+use borrow.Author.Tests.{eqb-true, eqb-false}
 use Rattle.model.specs.declared.Level.{Level}
 use Rattle.model.specs.declared.Level.TheVariants.{Hi}
 use Rattle.model.specs.declared.State.{State}
@@ -29,17 +27,11 @@ use Rattle.model.specs.Scenarios.{lo_times, zeros}
 use Rattle.model.specs.Tables.{table_of, lo_table, lo_slot, enabled, hi_pick, hi_had_at, hi_slot}
 use Rattle.laws.proofs.Bools.{tests, split}
 use Rattle.laws.proofs.Sums.{get_or-from}
-use Rattle.laws.proofs.Places.{at_in, at_set}
+use Rattle.laws.proofs.Places.{at_set}
 use Rattle.measures.specs.Measures.{enabled_by}
 use Rattle.columns.specs.declared.Columns.{Columns}
 use Rattle.columns.specs.Columns.{listed, by_mode, view_of}
 use Rattle.tables.specs.Slots.{enabled_in, chosen, counted}
-
--- who is enabled, by what the lists hold
-pub enabled_is : (had lo_had lo hi : List ℕ) (slot j h l a b : ℕ) (r : Bool) → h ≡ at had j 0 → l ≡ at lo_had j 0 → a ≡ at lo j 0 → b ≡ at hi j 0
-    → r ≡ enabled_by h l a b (eqb slot j) → r ≡ enabled_in had lo_had lo hi slot j
-unfolding enabled_in
-enabled_is had lo_had lo hi slot j h l a b r e f g i x = x ∙ rw (e, f, g, i) refl
 
 -- the pick, as the code finds it -------------------------------------------------------------------------------------------------------
 
@@ -62,21 +54,6 @@ unfolding at
 at_zero l j n e = rw e (omega arith)
 
 module _ (l : List ℕ) (j : ℕ) where
-  pub counted_none : (n : ℕ) → length l ≡ n → (1 ≤ j → j ≤ n → ⊥) → l ≡ counted l j
-  unfolding counted bump
-  counted_none n e h =
-      split (eqb j 0) (λ z. rw z refl)
-      (λ z.
-      let ne = eqb-false j 0 z in
-      rw z (sym (set_out l (j - 1) (suc (at l j 0)) (let out : n < j = omega (arith, h) in omega arith))))
-
-  pub counted_in : (k : ℕ) → k ≡ j → 1 ≤ j → set l (k - 1) (get_or l (k - 1) 0 + 1) ≡ counted l j
-  unfolding counted bump
-  counted_in k e h = rw (e, ne_eqb j 0 (omega arith), at_in l j 0 h, add-one) refl
-
-  pub countable : (k : ℕ) → k ≡ j → 1 ≤ j → at l j 0 < 65535 → get_or l (k - 1) 0 < 65535
-  countable k e h p = rw (e, ← at_in l j 0 h) p
-
   pub counted-length : length (counted l j) ≡ length l
   unfolding counted bump
   counted-length = split (eqb j 0) (λ e. rw e refl) (λ e. rw e (length-set l (j - 1) (suc (at l j 0))))

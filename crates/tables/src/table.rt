@@ -20,6 +20,7 @@ struct Had {
 
 impl Had {
     // Whether a number names a HI job that is enabled, where the LO table runs job `slot`.
+    #[tactic(auto, unfolding(crate::specs::Slots::enabled_in))]
     fn enables(&self, k: &Columns, slot: u16, j: u16) -> bool
         ensures { result ≡ enabled_in self.now.hi self.now.lo k.now.lo k.now.hi slot j }
     {
@@ -46,6 +47,7 @@ impl Had {
 }
 
 // What a list holds for job j, 0 where it has no place for it.
+#[tactic(auto, unfolding(model::specs::Lists::at))]
 fn entry(list: &[u16], j: u16) -> u16
     ensures { result ≡ at list.now j 0 }
 {
@@ -56,6 +58,7 @@ fn entry(list: &[u16], j: u16) -> u16
 }
 
 // Counts one slot more for job j. A number that names no place changes nothing.
+#[tactic(auto, unfolding(crate::specs::Slots::counted, model::specs::Runs::bump, model::specs::Lists::at))]
 fn count(had: &mut [u16; 64], j: u16)
     requires { at had.old j 0 < 65535 }
     ensures { had.new ≡ counted had.old j }
