@@ -7,7 +7,7 @@ use std::array;
 // The numbers of a line, at most 72.
 pub type Numbers = ArrayVec<u64, 72>;
 
-// One digit more. A number of more than 19 digits is read as the largest.
+// One digit more. A number of more than 19 digits is read as the largest, which `saturating_mul` would do of some with 20 only.
 fn with_digit(n: u64, digit: u8) -> u64 {
     if n > 999999999999999999 {
         return u64::MAX;

@@ -6,7 +6,7 @@ use arrayvec::ArrayVec;
 // The bytes of a text, at most 5,000.
 pub type Text = ArrayVec<u8, 5000>;
 
-// The value of a hex digit in lower case; 0 for any other byte.
+// The value of a hex digit in lower case; 0 for any other byte. By hand, since `to_digit` reads upper case too.
 fn digit_value(b: u8) -> u8
     ensures { result ≤ 15 }
 {
