@@ -121,6 +121,7 @@ impl Run<'_> {
         let mut g = Progress::start(self.k.n, self.times);
         for t in 0..span {
             self.step(&mut g, t);
+            // by index: of what is written through `get_mut` a proof knows no element afterwards
             if usize::from(t) < table.len() {
                 table[usize::from(t)] = g.slot;
             }

@@ -1,4 +1,5 @@
-// One run: what it ends with, and who gets each of its slots. Both functions are total, and refuse by checks 2 to 7 first.
+// One run: what it ends with, and who gets each of its slots; and check 8, of the room lent. Every public function is total, and a run refuses by checks
+// 2 to 7 first.
 #![tactic(auto)]
 
 ghost use Rattle.std.specs.Prelude.{◌≡◌, true, length};

@@ -14,6 +14,7 @@ impl Run<'_> {
         ensures { result ≡ checked (check_run (view_of self.now.k.now) self.now.times.now) }
     {
         let k = self.k;
+        // over the numbers: a job's level, budgets and time stand in four arrays
         for i in 0..k.n {
             if !in_range(k.critical[i], k.lo[i], k.hi[i], self.times[i]) {
                 return Err(Refusal {

@@ -64,6 +64,7 @@ fn count(had: &mut [u16; 64], j: u16)
     ensures { had.new ≡ counted had.old j }
 {
     let k = usize::from(j);
+    // by index: of what is written through `get_mut` a proof knows no element afterwards
     if 0 < k && k <= had.len() {
         had[k - 1] += 1;
     }
