@@ -1,4 +1,4 @@
-// Lines that begin with bytes which need not be text.
+// Lines that begin with bytes which need not be text. (A struct of the writer and these bytes would be made for one call, so it is no plainer.)
 ghost use Rattle.std.specs.Prelude.{OnOk, IfSome, ◌∷◌, ◌++◌};
 ghost use Rattle.std.specs.Io.KnownBytes.{Appends};
 

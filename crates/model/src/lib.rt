@@ -22,7 +22,8 @@ pub struct Job {
     pub hi: u16,
 }
 
-// Job numbers, highest priority first, with room for 64. Room beyond the count is no part of the order.
+// Job numbers, highest priority first, with room for 64. Room beyond the count is no part of the order. (Room and a count, here and in a set: document 01
+// names the form, and `room_is_no_part` is stated over it.)
 #[derive(Clone, Copy)]
 pub struct Order {
     pub entries: [u16; 64],
@@ -38,7 +39,8 @@ pub struct Set {
     pub hi: Order,
 }
 
-// "Each answer is the number and one place value." Number 0 with place 0 is good.
+// "Each answer is the number and one place value." Number 0 with place 0 is good. (Document 01 names the form, and `refusal` and the theorems over it are
+// stated by these numbers; code that may be refused answers a Result, and `told` is what From makes of it.)
 #[derive(Clone, Copy)]
 pub struct Refusal {
     pub number: u8,
@@ -82,14 +84,16 @@ pub const RUN: u8 = 9;
 
 pub const INSTANT: u8 = 10;
 
-// What the reader answers for a text: its set, all 0 where it is refused.
+// What the reader answers for a text: its set, all 0 where it is refused. (The refusal stands beside the set, as beside a run's finishes below, since
+// document 01 says that what is refused comes back all 0; `Reads` and `ran` are stated over that.)
 #[derive(Clone, Copy)]
 pub struct Reading {
     pub refusal: Refusal,
     pub set: Set,
 }
 
-// A run between two slots: the mode, and for each job the slots that it has had and whether it is done.
+// A run between two slots: the mode, and for each job the slots that it has had and whether it is done. (Two lists, and not one of pairs: `pick` is lent
+// who is done, and the definitions step both as they stand.)
 #[derive(Clone, Copy)]
 pub struct State {
     pub mode: Level,
@@ -105,7 +109,7 @@ pub struct Ran {
     pub switch: Option<u16>,
 }
 
-// A scenario of the published test: LO, or HI of a job.
+// A scenario of the published test: LO, or HI of a job. (Document 01 names this enum, and the verdict's below.)
 #[derive(Clone, Copy)]
 pub enum Scenario {
     Lo,

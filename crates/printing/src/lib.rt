@@ -12,7 +12,7 @@ ghost use Rattle.pages.specs.Pages.{page};
 mod lines;
 
 use analysis::assess;
-use lines::{fit_page, unfit_page};
+use lines::{Fit, unfit_page};
 use model::{GOOD, Reading, Set, Verdict};
 use pages::Page;
 use plan_text::read;
@@ -24,12 +24,16 @@ fn judged_page(s: &Set) -> Page
     let a = assess(*s);
     match a.judged.judgement {
         Err(refusal) => Page::refused(refusal),
-        Ok(Verdict::Fit) => fit_page(s, &a.worsts),
+        Ok(Verdict::Fit) => Fit {
+            set: s,
+            worsts: &a.worsts,
+        }
+        .page(),
         Ok(Verdict::Unfit(miss)) => unfit_page(s, miss, &a.judged.times),
     }
 }
 
-// The answer to what was read of a text.
+// The answer to what was read of a text. (A reading tells its refusal by the number: `printed` is stated over it.)
 fn page_of(q: &Reading) -> Page
     ensures { result ≡ page (printed q.now) }
 {

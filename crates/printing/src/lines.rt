@@ -13,30 +13,39 @@ use checks::span_of;
 use model::{Miss, Set};
 use pages::Page;
 
-// The lines of all jobs.
-fn with_jobs(page: Page, s: &Set, worsts: &[u16; 64]) -> Page
-    requires { (is_good (refusal (view s.now)) ≡ true) × (worsts.now ≡ worsts_of (view s.now)) }
-    ensures { result ≡ put page (job_lines (view s.now) (members (view s.now).policy)) }
-{
-    s.jobs[..s.count]
-        .iter()
-        .zip(worsts)
-        .enumerate()
-        .fold(page, |page, (i, (job, &worst))| {
-            page.with_job(i as u64 + 1, worst, job.deadline)
-        })
+// A set that passes the checks, with its worst finishes: what is printed of a fit set.
+#[derive(Clone, Copy)]
+pub struct Fit<'a> {
+    pub set: &'a Set,
+    pub worsts: &'a [u16; 64],
+    ghost passes: { is_good (refusal (view set.now)) ≡ true },
+    ghost worsts_are: { worsts.now ≡ worsts_of (view set.now) },
 }
 
-// "FIT and the span; then for each job its number, worst finish and margin."
-pub fn fit_page(s: &Set, worsts: &[u16; 64]) -> Page
-    requires { (is_good (refusal (view s.now)) ≡ true) × (worsts.now ≡ worsts_of (view s.now)) }
-    ensures { result ≡ page (fit_text (view s.now)) }
-{
-    let head = Page::empty()
-        .with_bytes(b"FIT")
-        .with_field(span_of(*s))
-        .with_byte(b'\n');
-    with_jobs(head, s, worsts)
+impl Fit<'_> {
+    // The lines of all jobs.
+    fn with_jobs(&self, page: Page) -> Page
+        ensures { result ≡ put page (job_lines (view self.now.set.now) (members (view self.now.set.now).policy)) }
+    {
+        self.set.jobs[..self.set.count]
+            .iter()
+            .zip(self.worsts)
+            .enumerate()
+            .fold(page, |page, (i, (job, &worst))| {
+                page.with_job(i as u64 + 1, worst, job.deadline)
+            })
+    }
+
+    // "FIT and the span; then for each job its number, worst finish and margin."
+    pub fn page(&self) -> Page
+        ensures { result ≡ page (fit_text (view self.now.set.now)) }
+    {
+        let head = Page::empty()
+            .with_bytes(b"FIT")
+            .with_field(span_of(*self.set))
+            .with_byte(b'\n');
+        self.with_jobs(head)
+    }
 }
 
 // "One line of the N running times in job order."

@@ -60,7 +60,7 @@ fn show_run<W: Write>(out: &mut W, set: &Set, times: &[u16; 64], table: &[u16]) 
     writeln!(out, "slots{}", first_of(table, span_of(*set) as usize))
 }
 
-// The answer for a set, with the times given.
+// The answer for a set, with the times given. (`slots`, and a reading, tell a refusal by its number: their promises are stated over it.)
 fn show_set<W: Write>(out: &mut W, set: &Set, given: [u16; 64]) -> io::Result<()> {
     let times = times_of(set, given);
     let mut table = [0; 4096];

@@ -5,16 +5,16 @@ use Rattle.std.proofs.lemmas.Iterator.Consumers.{fold_from_yields_List, YieldsLi
 use native.Mathlib.Omega.{arith}
 use lib.ListN.{take}
 use Rattle.printing.proofs.JobLaws.{good-count, one_line, jobs_put}
-use Rattle.printing.proofs.lines.with_jobs.Goals as goal
+use Rattle.printing.proofs.lines.Fit.with_jobs.Goals as goal
 
 pub shared_ref_as_front-iter : goal.shared_ref_as_front-iter
-shared_ref_as_front-iter c = (good-count _ c.requires.0).1
+shared_ref_as_front-iter c = (good-count _ c.args.self.now.passes).1
 
 pub returns : goal.returns
 returns c =
-    let s = c.args.s.now in
-    let w = c.args.worsts.now in
+    let s = c.args.self.now.set.now in
+    let w = c.args.self.now.worsts.now in
     fold_from_yields_List _ one_line _ _ c.fold.ensures.ran
     (YieldsList-from_enumerate (YieldsList-from_zip (YieldsList-from_slice (take s.count s.jobs) cc) (YieldsList-from_slice w cc)) (cc))
     (λ a x b q k. search rules)
-    ∙ jobs_put s c.requires.0 (omega arith) w c.requires.1 (search rules) c.args.page
+    ∙ jobs_put s c.args.self.now.passes (omega arith) w c.args.self.now.worsts_are (search rules) c.args.page

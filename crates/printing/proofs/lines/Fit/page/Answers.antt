@@ -1,4 +1,4 @@
--- `fit_page` meets its contract: the first line, then the lines of the jobs.
+-- `page` meets its contract: the first line, then the lines of the jobs.
 use mathlib.Core.List.{append_assoc}
 use Rattle.model.specs.Scenarios.{margin}
 use Rattle.model.specs.Texts.{fields}
@@ -6,7 +6,7 @@ use Rattle.model.specs.Printed.{fit_word, fit_text}
 use Rattle.pages.specs.Lines.{job_line}
 use Rattle.pages.proofs.Puts.{put-page}
 use Rattle.printing.specs.Lines.{job_lines}
-use Rattle.printing.proofs.lines.fit_page.Goals as goal
+use Rattle.printing.proofs.lines.Fit.page.Goals as goal
 
 pub returns : goal.returns
 unfolding fit_word fit_text fields job_lines job_line margin
