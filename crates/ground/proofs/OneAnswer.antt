@@ -19,7 +19,7 @@ use Rattle.model.specs.declared.Ran.{Ran}
 use Rattle.model.specs.declared.Judged.{Judged}
 use Rattle.model.specs.declared.Assessed.{Assessed}
 use Rattle.columns.specs.declared.Columns.{Columns}
-use Rattle.ground.specs.Promises.{IsHi, Untimely, Unbudgeted, Places, Members, FaultOf, Checks, RefusalOf, SpanOf, ColumnsOf, Orders, ChecksRoom, Assesses, Judges, FinishRows, RowsRefusal, WorstFinishes, Margins, Executes, Slots}
+use Rattle.ground.specs.Promises.{IsHi, Untimely, Unbudgeted, Places, Members, FaultOf, Told, Checked, Checks, RefusalOf, SpanOf, ColumnsOf, Orders, ChecksRoom, Assesses, Judges, FinishRows, RowsRefusal, WorstFinishes, Margins, Executes, Slots}
 use Rattle.ground.specs.Promises.{Picks, Parts, PartRefusal, MakesTables, InRange, Outruns, IsEnabled, Misses, Worse, MarginOf}
 
 pub one : {A : Type 0} {x y z : A} → x ≡ z → y ≡ z → x ≡ y
@@ -51,6 +51,12 @@ fault_of_one ok o x y p q = one p.3 q.3
 -- checks and columns ------------------------------------------------------------------------------------------------------------------
 
 -- The result of the checks: nothing, or the refusal.
+pub told_one : (r : Result (Unit {0}) Refusal) (x y : Refusal) → Told r x → Told r y → x ≡ y
+told_one r x y p q = one p q
+
+pub checked_one : (r : Refusal) (x y : Result (Unit {0}) Refusal) → Checked r x → Checked r y → x ≡ y
+checked_one r x y p q = one p q
+
 pub check_one : (s : Set) (x y : Result (Unit {0}) Refusal) → Checks s x → Checks s y → x ≡ y
 check_one s x y p q = one p.2 q.2
 

@@ -5,6 +5,7 @@
 --   Checks s x, Members s l, FaultOf ok o x   == `check` and `members` of a set that is lent, and `fault_of` of marks and an order that are
 --   Orders k m x      == `order` of the columns k in the mode m: the slice that it answers holds x
 --   ChecksRoom s lo hi x   == `check_room` of the set s, for tables of lengths lo and hi
+--   Told r x, Checked r x   == `from` may tell what a check refuses, r, as the answer x; and `check` the answer r as the check x
 --   Executes s c x    == `execute`, with the running times c
 --   Picks o a d t x   == `pick`, lent an order o, arrivals a and who is done d, at the instant t
 --   Parts l t x       == `part` of the table l from the instant t: the slice that it answers holds x;  PartRefusal: its companion
@@ -23,6 +24,8 @@ use Rattle.model.specs.declared.Ran.{Ran}
 use Rattle.model.specs.declared.Judged.{Judged}
 use Rattle.model.specs.declared.Assessed.{Assessed}
 use Rattle.columns.specs.declared.Columns.{Columns}
+use Rattle.model.proofs.RefusalFromResultUnitRefusal.from.Reads.{Post as told}
+use Rattle.model.proofs.Refusal.check.Reads.{Post as checked}
 use Rattle.rules.proofs.jobs.is_hi.Reads.{Post as is_hi}
 use Rattle.rules.proofs.jobs.untimely.Reads.{Post as untimely}
 use Rattle.rules.proofs.jobs.unbudgeted.Reads.{Post as unbudgeted}
@@ -65,6 +68,12 @@ Unbudgeted j x = unbudgeted tt (j, tt) x (j, tt)
 
 abbrev pub Places : ℕ → ℕ → Type 0
 Places n x = places tt (n, tt) x (n, tt)
+
+abbrev pub Told : Result (Unit {0}) Refusal → Refusal → Type 0
+Told r x = told tt (r, tt) x (r, tt)
+
+abbrev pub Checked : Refusal → Result (Unit {0}) Refusal → Type 0
+Checked r x = checked tt (r, tt) x (r, tt)
 
 abbrev pub RefusalOf : Set → Refusal → Type 0
 RefusalOf s x = refusal_of tt (s, tt) x (s, tt)

@@ -2,7 +2,7 @@
 #![tactic(auto)]
 
 ghost use Rattle.std.specs.Prelude.{◌≡◌};
-ghost use Rattle.model.specs.Refusals.{told};
+ghost use Rattle.model.specs.Refusals.{told, checked};
 ghost use Rattle.model.specs.Printed.{scenario_number};
 
 // A job's level of criticality. The mode of a run is one of the same two.
@@ -45,6 +45,20 @@ pub struct Set {
 pub struct Refusal {
     pub number: u8,
     pub place: u64,
+}
+
+impl Refusal {
+    // What this answer says of a check: that it refuses, or, where it is good, that it lets pass.
+    #[tactic(auto, unfolding(crate::specs::Refusals::checked, crate::specs::Refusals::is_good))]
+    pub fn check(self) -> Result<(), Refusal>
+        ensures { result ≡ checked self }
+    {
+        if self.number == GOOD {
+            Ok(())
+        } else {
+            Err(self)
+        }
+    }
 }
 
 // What a check refuses, told as an answer: good where it refuses nothing.

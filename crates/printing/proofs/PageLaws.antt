@@ -3,7 +3,8 @@
 --   refused-, fit_, unfit_judged     == the answer to a set that was read, by its judgement
 --   refused-printed, judged-printed  == the answer to what was read of a text
 -- Assumes nothing.
-use Rattle.std.specs.Prelude.{Err as Refused, Ok as Found}
+use Rattle.std.specs.Prelude.{Err, Ok, Err as Refused, Ok as Found}
+use Rattle.checks.proofs.Checked.{passes, refused}
 use Prim.Native.Nat.{ℕ}
 use mathlib.Core.Path.{◌≡◌, refl, sym, ◌∙◌, ap}
 use mathlib.Core.Bool.{true}
@@ -16,7 +17,7 @@ use Rattle.model.specs.declared.Verdict.{Verdict}
 use Rattle.model.specs.declared.Verdict.TheVariants.{Fit, Unfit}
 use Rattle.model.specs.declared.Assessed.{Assessed}
 use Rattle.model.specs.Sets.{View, view}
-use Rattle.model.specs.Refusals.{is_good, refusal}
+use Rattle.model.specs.Refusals.{is_good, checked, refusal}
 use Rattle.model.specs.Scenarios.{verdict, worsts_beside}
 use Rattle.model.specs.Answers.{unless, judged, assessed, worsts}
 use Rattle.model.specs.Printed.{refused_text, fit_text, unfit_text, judged_text, printed}
@@ -67,11 +68,11 @@ module _ (v : View) (a : Assessed) (e : a ≡ assessed v) where
         ∙ ap (λ x. page (judged_text v x (judged v).times)) (sym h ∙ judgement_of_lem)
 
 module _ (q : Reading) (p : Page) where
-  pub refused-printed : (q.refusal.number ≡ 0 → ⊥) → p ≡ page (refused_text q.refusal) → p ≡ page (printed q)
-  unfolding printed unless is_good
-  refused-printed n e = e ∙ rw (ne_eqb q.refusal.number 0 n)
+  pub refused-printed : (r : Refusal) → Err r ≡ checked q.refusal → p ≡ page (refused_text r) → p ≡ page (printed q)
+  unfolding printed unless
+  refused-printed r h e = let z = refused q.refusal r h in e ∙ rw (z.0, z.1) refl
 
-  pub judged-printed : q.refusal.number ≡ 0
+  pub judged-printed : Ok (tt {0}) ≡ checked q.refusal
       → p ≡ page (judged_text (view q.set) (judged (view q.set)).judgement (judged (view q.set)).times) → p ≡ page (printed q)
-  unfolding printed unless is_good
-  judged-printed z e = e ∙ rw (eq-eqb q.refusal.number 0 z)
+  unfolding printed unless
+  judged-printed h e = e ∙ rw (passes q.refusal h) refl

@@ -13,7 +13,7 @@ mod lines;
 
 use analysis::assess;
 use lines::{Fit, unfit_page};
-use model::{GOOD, Reading, Set, Verdict};
+use model::{Reading, Set, Verdict};
 use pages::Page;
 use plan_text::read;
 
@@ -33,14 +33,13 @@ fn judged_page(s: &Set) -> Page
     }
 }
 
-// The answer to what was read of a text. (A reading tells its refusal by the number: `printed` is stated over it.)
+// The answer to what was read of a text.
 fn page_of(q: &Reading) -> Page
     ensures { result ≡ page (printed q.now) }
 {
-    if q.refusal.number == GOOD {
-        judged_page(&q.set)
-    } else {
-        Page::refused(q.refusal)
+    match q.refusal.check() {
+        Ok(()) => judged_page(&q.set),
+        Err(refusal) => Page::refused(refusal),
     }
 }
 

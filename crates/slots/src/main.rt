@@ -12,7 +12,7 @@ use checks::span_of;
 use columns::columns_of;
 use input::{text_in, times_in};
 use input_bytes::read_full;
-use model::{GOOD, Refusal, Set};
+use model::{Refusal, Set};
 use plan_text::read;
 use std::io;
 use std::io::Write;
@@ -60,22 +60,21 @@ fn show_run<W: Write>(out: &mut W, set: &Set, times: &[u16; 64], table: &[u16]) 
     writeln!(out, "slots{}", first_of(table, span_of(*set) as usize))
 }
 
-// The answer for a set, with the times given. (`slots`, and a reading, tell a refusal by its number: their promises are stated over it.)
+// The answer for a set, with the times given.
 fn show_set<W: Write>(out: &mut W, set: &Set, given: [u16; 64]) -> io::Result<()> {
     let times = times_of(set, given);
     let mut table = [0; 4096];
-    let refusal = slots(*set, times, &mut table);
-    if refusal.number != GOOD {
-        return show_refusal(out, refusal);
+    match slots(*set, times, &mut table).check() {
+        Ok(()) => show_run(out, set, &times, &table),
+        Err(refusal) => show_refusal(out, refusal),
     }
-    show_run(out, set, &times, &table)
 }
 
 // The answer for an input.
 fn show<W: Write>(out: &mut W, input: &[u8]) -> io::Result<()> {
     let reading = read(text_in(input));
-    if reading.refusal.number != GOOD {
-        return show_refusal(out, reading.refusal);
+    match reading.refusal.check() {
+        Ok(()) => show_set(out, &reading.set, times_in(input)),
+        Err(refusal) => show_refusal(out, refusal),
     }
-    show_set(out, &reading.set, times_in(input))
 }

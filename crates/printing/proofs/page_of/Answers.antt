@@ -1,9 +1,10 @@
 -- `page_of` meets its contract: refused as the text is, or as the set is judged.
+use mathlib.Core.Path.{sym, ◌∙◌}
 use Rattle.printing.proofs.PageLaws.{refused-printed, judged-printed}
 use Rattle.printing.proofs.page_of.Goals as goal
 
-pub returns-then-q-eq-GOOD : goal.returns-then-q-eq-GOOD
-returns-then-q-eq-GOOD c = judged-printed _ _ c.if-q-eq-GOOD.true c.judged_page.ensures
+pub returns-in-Ok : goal.returns-in-Ok
+returns-in-Ok c = judged-printed _ _ (sym c.in-Ok.is ∙ c.check.ensures) c.judged_page.ensures
 
-pub returns-else-q-eq-GOOD : goal.returns-else-q-eq-GOOD
-returns-else-q-eq-GOOD c = refused-printed _ _ c.if-q-eq-GOOD.false c.refused.ensures
+pub returns-in-Err : goal.returns-in-Err
+returns-in-Err c = refused-printed _ _ _ (sym c.in-Err.is ∙ c.check.ensures) c.refused.ensures
