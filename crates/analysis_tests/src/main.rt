@@ -2,46 +2,41 @@
 // A line builds a set (crate case_text), or begins with `? ` and asks something of it (crate questions). Any other line is a comment.
 #![tactic(auto)]
 
-use answer_text::bytes;
-use case_text::{built, first, line_at, next_line, no_set, rest};
+use case_text::build;
 use input_bytes::read_full;
 use model::Set;
+use readings::no_set;
 use std::io;
 use std::io::Write;
 
 fn main(rt: HostRuntime) -> io::Result<()> {
-    let mut room = [0u8; 65536];
+    let mut room = [0; 65536];
     let n = read_full(&mut rt.stdin(), &mut room)?;
     play(&mut io::writer(&rt), &room[..n])
 }
 
-// Where the line of the last set stands, after a line at an index.
-fn set_at(line: &[u8], at: usize, before: usize) -> usize {
-    if first(line) == b's' { at } else { before }
-}
-
 // Writes the answer to a line that asks: the set's name, the question, and what the library says.
-fn answer<W: Write>(out: &mut W, name: &[u8], line: &[u8], s: Set) -> io::Result<()> {
-    if first(line) != b'?' {
+fn answer<W: Write>(out: &mut W, name: &[u8], line: &[u8], set: &Set) -> io::Result<()> {
+    let [b'?', asked @ ..] = line else {
         return Ok(());
-    }
-    bytes(out, name)?;
-    bytes(out, rest(line, 1))?;
-    questions::answer(out, name, rest(line, 2), s)?;
-    bytes(out, b"\n")
+    };
+    let question = asked.get(1..).unwrap_or(&[]);
+    out.write_all(name)?;
+    out.write_all(asked)?;
+    questions::answer(out, name, question, set)?;
+    out.write_all(b"\n")
 }
 
-// Goes through the lines. What is asked is answered under the name of the set that was built last.
+// Goes through the lines. What is asked is answered under the name of the set that was built last; before the first set, of the first line.
 fn play<W: Write>(out: &mut W, text: &[u8]) -> io::Result<()> {
-    let mut s = no_set();
-    let mut named: usize = 0;
-    let mut at: usize = 0;
-    while at < text.len() {
-        let line = line_at(text, at);
-        named = set_at(line, at, named);
-        s = built(line, s);
-        answer(out, rest(line_at(text, named), 4), line, s)?;
-        at = next_line(text, at);
+    let mut set = no_set();
+    let mut name: &[u8] = &[];
+    for (i, line) in text.split(|b| *b == b'\n').enumerate() {
+        if i == 0 || line.first() == Some(&b's') {
+            name = line.get(4..).unwrap_or(&[]);
+        }
+        build(&mut set, line);
+        answer(out, name, line, &set)?;
     }
     Ok(())
 }

@@ -1,89 +1,91 @@
-// The answers that have words: refusals, verdicts, runs and picks.
-use crate::values::numbers;
-use crate::words::{bytes, entry, number};
-use model::{Judged, Judgement, Miss, Pick, Ran, Refusal, Scenario, Switch, Verdict};
-use std::io;
-use std::io::Write;
+// The answers that have words.
+ghost use Rattle.std.specs.Prelude.{Some};
+ghost use Rattle.answer_text.specs.Words.{refusal_words, miss_words, verdict_words, judgement_words, switch_words, gets_words};
 
-// A refusal: its number and its place, or that there is none.
-pub fn refusal<W: Write>(out: &mut W, r: Refusal) -> io::Result<()> {
-    if r.number == 0 {
-        if r.place == 0 {
-            return bytes(out, b" good");
+use model::{Miss, Refusal, Verdict};
+use std::fmt;
+
+// A refusal, a miss, a verdict or a judgement in words.
+#[derive(Clone, Copy)]
+pub struct Words<T>(pub T);
+
+// The refusal's number and its place, or that there is none.
+impl fmt::Display for Words<Refusal> {
+    ghost output = { λ w. Some (refusal_words w.0) };
+
+    fn fmt<W: fmt::Write>(&self, f: &mut fmt::Formatter<W>) -> fmt::Result {
+        match self.0 {
+            Refusal {
+                number: 0,
+                place: 0,
+            } => write!(f, "good"),
+            Refusal { number, place } => write!(f, "refused {number} {place}"),
         }
     }
-    bytes(out, b" refused")?;
-    number(out, r.number as u64)?;
-    number(out, r.place)
 }
 
-// The number of a scenario: 0 for LO.
-fn scenario_number(x: Scenario) -> u16 {
-    match x {
-        Scenario::Lo => 0,
-        Scenario::Hi(j) => j,
+impl fmt::Display for Words<Miss> {
+    ghost output = { λ w. Some (miss_words w.0) };
+
+    fn fmt<W: fmt::Write>(&self, f: &mut fmt::Formatter<W>) -> fmt::Result {
+        let Miss {
+            scenario,
+            job,
+            finish,
+        } = self.0;
+        write!(f, "UNFIT {} {job} {finish}", u16::from(scenario))
     }
 }
 
-// An unfit verdict.
-fn miss<W: Write>(out: &mut W, m: Miss) -> io::Result<()> {
-    let x = m.scenario;
-    bytes(out, b" UNFIT")?;
-    entry(out, scenario_number(x))?;
-    entry(out, m.job)?;
-    entry(out, m.finish)
-}
+impl fmt::Display for Words<Verdict> {
+    ghost output = { λ w. Some (verdict_words w.0) };
 
-// A verdict.
-fn verdict<W: Write>(out: &mut W, v: Verdict) -> io::Result<()> {
-    match v {
-        Verdict::Fit => bytes(out, b" FIT"),
-        Verdict::Unfit(m) => miss(out, m),
+    fn fmt<W: fmt::Write>(&self, f: &mut fmt::Formatter<W>) -> fmt::Result {
+        match self.0 {
+            Verdict::Fit => write!(f, "FIT"),
+            Verdict::Unfit(miss) => write!(f, "{}", Words(miss)),
+        }
     }
 }
 
 // A judgement.
-fn judgement<W: Write>(out: &mut W, x: Judgement) -> io::Result<()> {
-    match x {
-        Judgement::Refused(r) => refusal(out, r),
-        Judgement::Found(v) => verdict(out, v),
-    }
-}
+impl fmt::Display for Words<Result<Verdict, Refusal>> {
+    ghost output = { λ w. Some (judgement_words w.0) };
 
-// The judgement of a set with n jobs, and the running times beside it.
-pub fn judged<W: Write>(out: &mut W, x: Judged, n: usize) -> io::Result<()> {
-    let found = x.judgement;
-    let times = x.times;
-    judgement(out, found)?;
-    bytes(out, b" times")?;
-    numbers(out, times, n)
+    fn fmt<W: fmt::Write>(&self, f: &mut fmt::Formatter<W>) -> fmt::Result {
+        match self.0 {
+            Ok(verdict) => write!(f, "{}", Words(verdict)),
+            Err(refusal) => write!(f, "{}", Words(refusal)),
+        }
+    }
 }
 
 // The instant of a switch, or never.
-fn switch<W: Write>(out: &mut W, x: Switch) -> io::Result<()> {
-    bytes(out, b" switch")?;
-    match x {
-        Switch::Never => bytes(out, b" never"),
-        Switch::At(t) => entry(out, t),
+#[derive(Clone, Copy)]
+pub struct Switch(pub Option<u16>);
+
+impl fmt::Display for Switch {
+    ghost output = { λ w. Some (switch_words w.0) };
+
+    fn fmt<W: fmt::Write>(&self, f: &mut fmt::Formatter<W>) -> fmt::Result {
+        match self.0 {
+            None => write!(f, "never"),
+            Some(instant) => write!(f, "{instant}"),
+        }
     }
 }
 
-// Of a run with n jobs the refusal, the finishes and the switch.
-pub fn ran<W: Write>(out: &mut W, x: Ran, n: usize) -> io::Result<()> {
-    let refused = x.refusal;
-    let finishes = x.finishes;
-    let instant = x.switch;
-    refusal(out, refused)?;
-    bytes(out, b" ends")?;
-    numbers(out, finishes, n)?;
-    switch(out, instant)
-}
-
 // Who gets a slot.
-pub fn pick<W: Write>(out: &mut W, x: Pick) -> io::Result<()> {
-    bytes(out, b" gets")?;
-    match x {
-        Pick::Idle => bytes(out, b" idle"),
-        Pick::Job(j) => entry(out, j),
+#[derive(Clone, Copy)]
+pub struct Gets(pub Option<u16>);
+
+impl fmt::Display for Gets {
+    ghost output = { λ w. Some (gets_words w.0) };
+
+    fn fmt<W: fmt::Write>(&self, f: &mut fmt::Formatter<W>) -> fmt::Result {
+        match self.0 {
+            None => write!(f, "idle"),
+            Some(job) => write!(f, "{job}"),
+        }
     }
 }

@@ -1,12 +1,11 @@
-// An answer of the library as text, given to a writer: words and numbers, a space before each. Every function is total, and stops with the error of the first write that fails.
+// An answer of the library as text. `Words`, `Switch`, `Gets`, `List` and `Table` print; the finish rows go to a writer, line by line, and stop with the
+// error of the first write that fails.
 #![tactic(auto)]
 
 mod answers;
-mod tables;
-mod values;
-mod words;
+mod lines;
+mod lists;
 
-pub use answers::{judged, pick, ran, refusal};
-pub use tables::table;
-pub use values::{margins, numbers, rows};
-pub use words::{bytes, line, list, number};
+pub use answers::{Gets, Switch, Words};
+pub use lines::{line, rows};
+pub use lists::{List, Table, of_jobs};

@@ -1,4 +1,4 @@
-// The lines of a file of cases: where each stands, its numbers, the set that lines build, and the text of a line.
+// What a line of a file of cases holds: its numbers, what it builds of a set, or a text.
 //   set NAME                  a new set, with no job and no order
 //   job A D LEVEL LO HI       one job more; with a sixth number, that many
 //   lo J ..   hi J ..         the LO order, the HI order
@@ -7,12 +7,10 @@
 // Every function is total. Any other line builds nothing, and a text leaves the set as it is.
 #![tactic(auto)]
 
-mod lines;
 mod numbers;
 mod sets;
 mod texts;
 
-pub use lines::{between, first, line_at, next_line, rest};
-pub use numbers::{Numbers, at_most, flags, nth, numbers_in, short, shorts};
-pub use sets::{built, no_set};
+pub use numbers::{Numbers, nth, numbers_in, short, shorts};
+pub use sets::build;
 pub use texts::{Text, text_in};

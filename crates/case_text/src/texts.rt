@@ -1,14 +1,12 @@
 // The bytes that a line gives in hex.
 ghost use Rattle.std.specs.Prelude.{◌≤◌};
 
-// The bytes of a text, as many as `length`, with room for 5,000.
-#[derive(Clone, Copy)]
-pub struct Text {
-    pub bytes: [u8; 5000],
-    pub length: usize,
-}
+use arrayvec::ArrayVec;
 
-// The value of a hex digit in lower case; 0 for any other byte.
+// The bytes of a text, at most 5,000.
+pub type Text = ArrayVec<u8, 5000>;
+
+// The value of a hex digit in lower case; 0 for any other byte. By hand, since `to_digit` reads upper case too.
 fn digit_value(b: u8) -> u8
     ensures { result ≤ 15 }
 {
@@ -19,28 +17,19 @@ fn digit_value(b: u8) -> u8
     }
 }
 
-// The byte whose two hex digits begin at an index; 0 where they do not both stand in the line.
-fn byte_at(line: &[u8], i: usize) -> u8 {
-    if line.len() < 2 {
-        return 0;
+// The byte that two hex digits are; 0 where the second is missing.
+fn byte_of(digits: &[u8]) -> u8 {
+    match digits {
+        [high, low] => digit_value(*high) * 16 + digit_value(*low),
+        _ => 0,
     }
-    if i > line.len() - 2 {
-        return 0;
-    }
-    digit_value(line[i]) * 16 + digit_value(line[i + 1])
 }
 
 // The text of a line: two hex digits a byte, after the word `text` and a space.
 pub fn text_in(line: &[u8]) -> Text {
-    let mut bytes = [0u8; 5000];
-    let mut n: usize = 0;
-    while n < 5000 {
-        let i = 5 + 2 * n;
-        if i >= line.len() {
-            return Text { bytes, length: n };
-        }
-        bytes[n] = byte_at(line, i);
-        n += 1;
+    let mut text = Text::new();
+    for digits in line.get(5..).unwrap_or(&[]).chunks(2) {
+        let _ = text.try_push(byte_of(digits));
     }
-    Text { bytes, length: n }
+    text
 }

@@ -1,44 +1,29 @@
 // The jobs of a set, one after the other.
-ghost use Rattle.std.specs.Prelude.{◌≡◌, length};
+ghost use Rattle.std.specs.Prelude.{◌≡◌, Bool, length};
+ghost use Rattle.model.specs.declared.Job.{Job};
 ghost use Rattle.model.specs.Lists.{first};
-ghost use Rattle.model.specs.Sets.{view, members};
+ghost use Rattle.model.specs.Sets.{job_at, members, view};
 ghost use Rattle.model.specs.Scenarios.{hi_jobs};
-ghost use Rattle.rules.specs.Rules.{breaks_at};
+ghost use Rattle.rules.specs.Rules.{nonzero};
 
-use model::Set;
-use rules::jobs::{breaks, is_hi};
-use rules::orders::places;
+use model::{Job, Set};
+use rules::jobs::{is_hi, members};
 
 // The number of HI jobs.
-pub fn hi_jobs(s: Set) -> usize
-    ensures { result ≡ length (hi_jobs (view s)) }
+pub fn hi_jobs(s: &Set) -> usize
+    ensures { result ≡ length (hi_jobs (view s.now)) }
 {
-    let n = places(s.count);
-    let mut found = 0;
-    let mut i = 0;
-    while i < n {
-        let j = s.jobs[i];
-        let l = j.level;
-        if is_hi(l) {
-            found += 1;
-        }
-        i += 1;
-    }
-    found
+    members(s).iter().filter(|j| is_hi(j.level)).count()
 }
 
-// The lowest job that breaks the rule of refusal `number`; 0 where none does.
-pub fn lowest(s: Set, number: u8) -> u64
-    ensures { result ≡ first (breaks_at number s) (members (view s).policy) }
+// The number of the lowest job that breaks a rule.
+pub fn lowest<F: Fn(Job) -> bool>(s: &Set, breaks: F) -> Option<u64>
+    requires { F.IsAlwaysCallable breaks }
+    ensures { (rule : Job → Bool) → ((j : Job) (b : Bool) → F.post breaks j b → b ≡ rule j)
+        → result ≡ nonzero (first (λ j. rule (job_at s.now j)) (members (view s.now).policy)) }
 {
-    let n = places(s.count);
-    let mut i = 0;
-    while i < n {
-        let j = s.jobs[i];
-        if breaks(j, number) {
-            return (i + 1) as u64;
-        }
-        i += 1;
-    }
-    0
+    members(s)
+        .iter()
+        .position(|j| breaks(*j))
+        .map(|i| i as u64 + 1)
 }

@@ -1,76 +1,51 @@
-// The checks of document 01, "Refusal numbers", in their order.
+// The checks of document 01, "Refusal numbers", in their order. Each refuses the set, with its number and place, or lets it pass.
 ghost use Rattle.std.specs.Prelude.{◌≤◌, [], ◌∷◌, ◌≡◌};
 ghost use Rattle.model.specs.Sets.{view};
-ghost use Rattle.model.specs.Refusals.{applies, placed, first_of, check_count, check_time, check_budget, check_span, check_lo_order, check_hi_order};
+ghost use Rattle.model.specs.Refusals.{checked, first_of, check_count, check_time, check_budget, check_span, check_lo_order, check_hi_order};
+ghost use Rattle.checks.specs.Places.{refused};
 
 use crate::jobs::{hi_jobs, lowest};
 use crate::orders::allowed;
-use model::{BUDGET, COUNT, GOOD, HI_ORDER, LO_ORDER, Level, Refusal, SPAN, Set, TIME};
+use model::{BUDGET, COUNT, HI_ORDER, LO_ORDER, Level, Refusal, SPAN, Set, TIME};
+use rules::jobs::{unbudgeted, untimely};
 use rules::orders::fault_of;
 use spans::span_of;
 
-// Refusal `number` with its place, where it applies.
-fn applies(number: u8, place: u64, wrong: bool) -> Refusal
-    ensures { result ≡ applies number place wrong }
+// Refuses by `number` with a place, where there is one.
+#[tactic(auto, unfolding(crate::specs::Places::refused))]
+fn refuse(number: u8, place: Option<u64>) -> Result<(), Refusal>
+    ensures { result ≡ refused number place }
 {
-    if wrong {
-        Refusal { number, place }
-    } else {
-        Refusal {
-            number: GOOD,
-            place: 0,
-        }
+    match place {
+        Some(place) => Err(Refusal { number, place }),
+        None => Ok(()),
     }
-}
-
-// Refusal `number` with a place from 1; 0 says that it does not apply.
-fn placed(number: u8, place: u64) -> Refusal
-    ensures { result ≡ placed number place }
-{
-    applies(number, place, place != 0)
 }
 
 // Check 2: the counts.
-pub fn check_count(s: Set) -> Refusal
-    ensures { result ≡ check_count (view s) }
+pub fn check_count(s: &Set) -> Result<(), Refusal>
+    ensures { result ≡ checked (check_count (view s.now)) }
 {
     let n = s.count;
-    let lo = s.lo.count;
-    let hi = s.hi.count;
-    let found = hi_jobs(s);
-    applies(
-        COUNT,
-        n as u64,
-        (n == 0) | ((64 < n) | ((lo != n) | (hi != found))),
-    )
+    let wrong = n == 0 || 64 < n || s.lo.count != n || s.hi.count != hi_jobs(s);
+    refuse(COUNT, wrong.then_some(n as u64))
 }
 
 // Checks 3 to 5: the times, the budgets, the span.
-pub fn check_jobs(s: Set) -> Refusal
-    ensures { result ≡ first_of (check_time (view s) ∷ check_budget (view s) ∷ check_span (view s) ∷ []) }
+pub fn check_jobs(s: &Set) -> Result<(), Refusal>
+    ensures { result ≡ checked (first_of (check_time (view s.now) ∷ check_budget (view s.now) ∷ check_span (view s.now) ∷ [])) }
 {
-    let time = placed(TIME, lowest(s, TIME));
-    if time.number != GOOD {
-        return time;
-    }
-    let budget = placed(BUDGET, lowest(s, BUDGET));
-    if budget.number != GOOD {
-        return budget;
-    }
-    let n = span_of(s);
-    applies(SPAN, n, 4096 < n)
+    refuse(TIME, lowest(s, untimely))?;
+    refuse(BUDGET, lowest(s, unbudgeted))?;
+    let n = span_of(*s);
+    refuse(SPAN, (4096 < n).then_some(n))
 }
 
 // Checks 6 and 7: the orders.
-pub fn check_orders(s: Set) -> Refusal
-    requires { (s.count ≤ 64) × (s.lo.count ≤ 64) × (s.hi.count ≤ 64) }
-    ensures { result ≡ first_of (check_lo_order (view s) ∷ check_hi_order (view s) ∷ []) }
+pub fn check_orders(s: &Set) -> Result<(), Refusal>
+    requires { (s.now.count ≤ 64) × (s.now.lo.count ≤ 64) × (s.now.hi.count ≤ 64) }
+    ensures { result ≡ checked (first_of (check_lo_order (view s.now) ∷ check_hi_order (view s.now) ∷ [])) }
 {
-    let lo = s.lo;
-    let first = placed(LO_ORDER, fault_of(allowed(s, Level::Lo), lo));
-    if first.number != GOOD {
-        return first;
-    }
-    let hi = s.hi;
-    placed(HI_ORDER, fault_of(allowed(s, Level::Hi), hi))
+    refuse(LO_ORDER, fault_of(&allowed(s, Level::Lo), &s.lo))?;
+    refuse(HI_ORDER, fault_of(&allowed(s, Level::Hi), &s.hi))
 }

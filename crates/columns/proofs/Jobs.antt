@@ -1,8 +1,8 @@
 -- A set's jobs, and how a loop fills its columns, job by job.
 --   cut_at, cut-take      == what a list cut at n holds; it is the first n of a list that has them
 --   job_at_lem, job_out   == job i + 1 stands at place i; beyond the count there is the blank job
---   Filled s i a d c l h  == the columns are filled up to job i;  filled_zero, filled_more: a loop's first turn, and the next
---   filled_all            == filled up to the count, or to the last place, they are the set's
+--   columns_to s i        == a set's columns, filled up to job i
+--   columns_zero, columns_more, columns_all   == before the first job, after one more, and after the last, when they are the set's
 -- Assumes nothing.
 use Prim.Native.Nat.{ℕ, zero, suc, ◌+◌, ◌≤◌, ◌<◌, min}
 use mathlib.Core.Path.{◌≡◌, refl, sym, ◌∙◌, ap}
@@ -14,12 +14,19 @@ use lib.ListN.{length, get_or, take, set, replicate}
 use borrow.Author.Tests.{le-leb, lt-leb}
 use Rattle.model.specs.declared.Job.{Job}
 use Rattle.model.specs.declared.Set.{Set}
+use Rattle.columns.specs.declared.Columns.{Columns}
+use Rattle.model.specs.declared.Level.{Level}
+use Rattle.model.specs.declared.Level.TheVariants.{Lo, Hi}
+use Rattle.model.specs.contracts.Level.{the_type}
+use denote.Enum.Bare.{sameb}
+use lib.ListN.{length-take}
+use lib.Seq.{get_or-take}
 use Rattle.model.specs.Lists.{at, numbers, cut}
 use Rattle.model.specs.Sets.{is_hi, blank, job, job_at, view, critical}
 use Rattle.model.specs.Scenarios.{places}
 use Rattle.laws.proofs.Bools.{tests, split, clash, and_i, and_no_r}
 use Rattle.laws.proofs.Pigeonhole.{length_cut}
-use Rattle.laws.proofs.Places.{at_in, at_out}
+use Rattle.laws.proofs.Places.{at_in, at_out, get_d_any}
 use Rattle.laws.proofs.Fill.{map_same, up_to, up_to_zero, up_to-more, up_to-end, up_to-places}
 use Rattle.columns.specs.Columns.{columns_of}
 
@@ -37,11 +44,12 @@ cut-take d zero l h = refl
 cut-take d (suc n) [] h = absurd (omega arith)
 cut-take d (suc n) (x ∷ l) h = ap (λ m. x ∷ m) (cut-take d n l (omega arith))
 
-job_at_lem : (s : Set) (i : ℕ) → i < s.count → job_at s (suc i) ≡ get_or s.jobs i blank
+job_at_lem : (s : Set) (i : ℕ) (d : Job) → i < s.count → i < length s.jobs → job_at s (suc i) ≡ get_or s.jobs i d
 unfolding job_at
-job_at_lem s i h =
+job_at_lem s i d h q =
     let l = cut blank s.count s.jobs in
     at_in l (suc i) blank (omega arith) ∙ ap (λ k. get_or l k blank) (omega arith) ∙ cut_at blank s.count s.jobs i h
+    ∙ get_d_any s.jobs i blank d q
 
 pub job_out : (s : Set) (j : ℕ) → (leb 1 j && leb j s.count) ≡ false → job_at s j ≡ blank
 unfolding job_at at
@@ -52,72 +60,115 @@ job_out s j h =
     (λ q. clash (and_i (le-leb 1 j (omega (tests, z))) q) h)
     (λ q. at_out (cut blank s.count s.jobs) j blank (omega (tests, q, length_cut blank s.count s.jobs))))
 
-pub record Filled (s : Set) (i : ℕ) (a d : List ℕ) (c : List Bool) (l h : List ℕ) : Type 0 where
-  pub arrivals : a ≡ up_to i (λ j. (job_at s j).arrival) 0
-  pub deadlines : d ≡ up_to i (λ j. (job_at s j).deadline) 0
-  pub critical : c ≡ up_to i (λ j. is_hi (job_at s j).level) false
-  pub lo : l ≡ up_to i (λ j. (job_at s j).lo) 0
-  pub hi : h ≡ up_to i (λ j. (job_at s j).hi) 0
-
-pub filled_zero : (s : Set) → Filled s 0 (replicate 64 0) (replicate 64 0) (replicate 64 false) (replicate 64 0) (replicate 64 0)
-filled_zero s =
+-- a set's columns, filled up to job i
+unfoldable pub columns_to : Set → ℕ → Columns
+columns_to s i =
     record {
-      arrivals = sym (up_to_zero (λ j. (job_at s j).arrival) 0);
-      deadlines = sym (up_to_zero (λ j. (job_at s j).deadline) 0);
-      critical = sym (up_to_zero (λ j. is_hi (job_at s j).level) false);
-      lo = sym (up_to_zero (λ j. (job_at s j).lo) 0);
-      hi = sym (up_to_zero (λ j. (job_at s j).hi) 0);
+      n = s.count;
+      m = s.hi.count;
+      arrivals = up_to i (λ j. (job_at s j).arrival) 0;
+      deadlines = up_to i (λ j. (job_at s j).deadline) 0;
+      critical = up_to i (λ j. is_hi (job_at s j).level) false;
+      lo = up_to i (λ j. (job_at s j).lo) 0;
+      hi = up_to i (λ j. (job_at s j).hi) 0;
+      lo_order = s.lo.entries;
+      hi_order = s.hi.entries;
     }
 
-module _ (s : Set) (i : ℕ) (a d : List ℕ) (c : List Bool) (l h : List ℕ) (g : Filled s i a d c l h) where
-  pub filled_more : (b : Bool) → i < s.count → i < 64 → b ≡ is_hi (get_or s.jobs i blank).level
-      → Filled s (i + 1) (set a i (get_or s.jobs i blank).arrival) (set d i (get_or s.jobs i blank).deadline) (set c i b)
-      (set l i (get_or s.jobs i blank).lo) (set h i (get_or s.jobs i blank).hi)
-  filled_more b p q e =
-      let j : get_or s.jobs i blank ≡ job_at s (suc i) = sym (job_at_lem s i p) in
-      record {
-        arrivals = up_to-more a i (λ k. (job_at s k).arrival) _ 0 g.arrivals q (ap (λ (k : Job). k.arrival) j);
-        deadlines = up_to-more d i (λ k. (job_at s k).deadline) _ 0 g.deadlines q (ap (λ (k : Job). k.deadline) j);
-        critical = up_to-more c i (λ k. is_hi (job_at s k).level) b false g.critical q (e ∙ ap (λ (k : Job). is_hi k.level) j);
-        lo = up_to-more l i (λ k. (job_at s k).lo) _ 0 g.lo q (ap (λ (k : Job). k.lo) j);
-        hi = up_to-more h i (λ k. (job_at s k).hi) _ 0 g.hi q (ap (λ (k : Job). k.hi) j);
-      }
+-- columns, with job i + 1 put in
+abbrev pub with_job : Columns → ℕ → Job → Bool → Columns
+with_job k i j b =
+    record k {
+      arrivals = set k.arrivals i j.arrival;
+      deadlines = set k.deadlines i j.deadline;
+      critical = set k.critical i b;
+      lo = set k.lo i j.lo;
+      hi = set k.hi i j.hi;
+    }
 
-  columns_critical : i ≡ min s.count 64 → c ≡ map (critical (view s).policy) (numbers 64)
+-- the test `== Level::Hi`
+is-hi : (l : Level) → sameb the_type l Hi ≡ is_hi l
+unfolding is_hi
+is-hi Lo = refl
+is-hi Hi = refl
+
+-- a set's columns before the first job
+abbrev pub blank_columns : Set → Columns
+blank_columns s =
+    record {
+      n = s.count;
+      m = s.hi.count;
+      arrivals = replicate 64 0;
+      deadlines = replicate 64 0;
+      critical = replicate 64 false;
+      lo = replicate 64 0;
+      hi = replicate 64 0;
+      lo_order = s.lo.entries;
+      hi_order = s.hi.entries;
+    }
+
+module _ (s : Set) where
+  pub columns_zero : blank_columns s ≡ columns_to s 0
+  unfolding columns_to
+  columns_zero =
+      rw (
+        up_to_zero (λ j. (job_at s j).arrival) 0,
+        up_to_zero (λ j. (job_at s j).deadline) 0,
+        up_to_zero (λ j. is_hi (job_at s j).level) false,
+        up_to_zero (λ j. (job_at s j).lo) 0,
+        up_to_zero (λ j. (job_at s j).hi) 0,
+      )
+      refl
+
+  pub columns_more : (k : Columns) (i n : ℕ) (d : Job) (b : Bool) → k ≡ columns_to s i → length s.jobs ≡ 64 → n ≡ min s.count 64
+      → i < length (take n s.jobs) → b ≡ sameb the_type (get_or (take n s.jobs) i d).level Hi
+      → with_job k i (get_or (take n s.jobs) i d) b ≡ columns_to s (i + 1)
+  unfolding columns_to
+  columns_more k i n d b e l m h f =
+      let below : i < n = omega (arith, simp length-take at h) in
+      let room : i < 64 = omega arith in
+      let w : get_or (take n s.jobs) i d ≡ job_at s (suc i) = get_or-take n s.jobs i d below ∙ sym (job_at_lem s i d (omega arith) (omega arith)) in
+      let j = job_at s (suc i) in
+      ap (λ x. with_job x i (get_or (take n s.jobs) i d) b) e
+      ∙ rw (
+        f,
+        w,
+        is-hi j.level,
+        up_to-more (up_to i (λ k. (job_at s k).arrival) 0) i (λ k. (job_at s k).arrival) j.arrival 0 refl room refl,
+        up_to-more (up_to i (λ k. (job_at s k).deadline) 0) i (λ k. (job_at s k).deadline) j.deadline 0 refl room refl,
+        up_to-more (up_to i (λ k. is_hi (job_at s k).level) false) i (λ k. is_hi (job_at s k).level) (is_hi j.level) false refl room refl,
+        up_to-more (up_to i (λ k. (job_at s k).lo) 0) i (λ k. (job_at s k).lo) j.lo 0 refl room refl,
+        up_to-more (up_to i (λ k. (job_at s k).hi) 0) i (λ k. (job_at s k).hi) j.hi 0 refl room refl,
+      )
+      refl
+
+  critical_all : (i : ℕ) → i ≡ min s.count 64
+      → up_to i (λ j. is_hi (job_at s j).level) false ≡ map (critical (view s).policy) (numbers 64)
   unfolding view critical up_to is_hi blank job
-  columns_critical e =
-      g.critical
-      ∙ map_same (λ j. cond (leb j i) (is_hi (job_at s j).level) false) (λ j. is_hi (job_at s j).level)
+  critical_all i e =
+      map_same (λ j. cond (leb j i) (is_hi (job_at s j).level) false) (λ j. is_hi (job_at s j).level)
       (λ j p q.
       split (leb j i) (λ z. rw z refl)
       (λ z. rw z (rw (job_out s j (and_no_r (leb 1 j) (lt-leb j s.count (omega (tests, z))))) refl)))
 
-  pub filled_all : i ≡ min s.count 64
-      → record {
-        n = s.count;
-        m = s.hi.count;
-        arrivals = a;
-        deadlines = d;
-        critical = c;
-        lo = l;
-        hi = h;
-        lo_order = s.lo.entries;
-        hi_order = s.hi.entries;
-      }
-      ≡ columns_of s
-  unfolding columns_of places view
-  filled_all e =
+  all_filled : (i : ℕ) → i ≡ min s.count 64 → columns_to s i ≡ columns_of s
+  unfolding columns_to columns_of places view
+  all_filled i e =
       λ t. record {
         n = s.count;
         m = s.hi.count;
-        arrivals = filled (λ j. (job_at s j).arrival) a g.arrivals t;
-        deadlines = filled (λ j. (job_at s j).deadline) d g.deadlines t;
-        critical = columns_critical e t;
-        lo = filled (λ j. (job_at s j).lo) l g.lo t;
-        hi = filled (λ j. (job_at s j).hi) h g.hi t;
+        arrivals = all (λ j. (job_at s j).arrival) t;
+        deadlines = all (λ j. (job_at s j).deadline) t;
+        critical = critical_all i e t;
+        lo = all (λ j. (job_at s j).lo) t;
+        hi = all (λ j. (job_at s j).hi) t;
         lo_order = s.lo.entries;
         hi_order = s.hi.entries;
       }
     where
-      filled : (f : ℕ → ℕ) (x : List ℕ) → x ≡ up_to i f 0 → x ≡ map (λ j. cond (leb 1 j && leb j s.count) (f j) 0) (numbers 64)
-      filled f x p = p ∙ up_to-end i s.count f 0 e ∙ up_to-places s.count f 0
+      all : (f : ℕ → ℕ) → up_to i f 0 ≡ map (λ j. cond (leb 1 j && leb j s.count) (f j) 0) (numbers 64)
+      all f = up_to-end i s.count f 0 e ∙ up_to-places s.count f 0
+
+  pub columns_all : (i n : ℕ) → length s.jobs ≡ 64 → n ≡ min s.count 64 → i ≤ length (take n s.jobs) → length (take n s.jobs) ≤ i
+      → columns_to s i ≡ columns_of s
+  columns_all i n l m p q = all_filled i (let h : i ≡ min n (length s.jobs) = omega (arith, simp length-take at p, simp length-take at q) in omega arith)

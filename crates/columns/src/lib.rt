@@ -2,12 +2,11 @@
 #![tactic(auto)]
 
 ghost use Rattle.std.specs.Prelude.{◌≡◌};
-ghost use Rattle.columns.specs.Columns.{columns_of};
+ghost use Rattle.columns.specs.Columns.{view_of, columns_of};
 
-use model::Set;
-use rules::jobs::is_hi;
-use rules::orders::places;
+use model::{Level, Set};
 
+// Arrays side by side, and no array of jobs: `picks::pick` promises its answer by the list of the arrivals, which `arrivals` is.
 #[derive(Clone, Copy)]
 pub struct Columns {
     pub n: usize,
@@ -21,42 +20,40 @@ pub struct Columns {
     pub hi_order: [u16; 64],
 }
 
+impl Columns {
+    // The order of a mode, without the room beyond its count.
+    #[tactic(auto, using(std::proofs::lemmas::List::take_min), unfolding(crate::specs::Columns::view_of, crate::specs::Columns::listed, crate::specs::Columns::by_mode))]
+    pub fn order(&self, mode: Level) -> &[u16]
+        ensures { result.now ≡ (view_of self.now).policy.order mode }
+    {
+        match mode {
+            Level::Lo => &self.lo_order[..self.n.min(64)],
+            Level::Hi => &self.hi_order[..self.m.min(64)],
+        }
+    }
+}
+
 // The columns of a set. Past its count, and past the 64 places, they hold nothing.
 pub fn columns_of(s: Set) -> Columns
     ensures { result ≡ columns_of s }
 {
-    let n = s.count;
-    let lo = s.lo;
-    let hi = s.hi;
-    let m = hi.count;
-    let mut arrivals = [0u16; 64];
-    let mut deadlines = [0u16; 64];
-    let mut critical = [false; 64];
-    let mut los = [0u16; 64];
-    let mut his = [0u16; 64];
-    let end = places(n);
-    let mut i: usize = 0;
-    while i < end {
-        let j = s.jobs[i];
-        arrivals[i] = j.arrival;
-        deadlines[i] = j.deadline;
-        let l = j.level;
-        critical[i] = is_hi(l);
-        los[i] = j.lo;
-        his[i] = j.hi;
-        i += 1;
+    let mut k = Columns {
+        n: s.count,
+        m: s.hi.count,
+        arrivals: [0u16; 64],
+        deadlines: [0u16; 64],
+        critical: [false; 64],
+        lo: [0u16; 64],
+        hi: [0u16; 64],
+        lo_order: s.lo.entries,
+        hi_order: s.hi.entries,
+    };
+    for (i, job) in s.jobs[..s.count.min(64)].iter().enumerate() {
+        k.arrivals[i] = job.arrival;
+        k.deadlines[i] = job.deadline;
+        k.critical[i] = job.level == Level::Hi;
+        k.lo[i] = job.lo;
+        k.hi[i] = job.hi;
     }
-    let lo_order = lo.entries;
-    let hi_order = hi.entries;
-    Columns {
-        n,
-        m,
-        arrivals,
-        deadlines,
-        critical,
-        lo: los,
-        hi: his,
-        lo_order,
-        hi_order,
-    }
+    k
 }

@@ -1,80 +1,69 @@
 // The library's answer to a question, held against the one wanted. What is written of it stands in memory, and each answer takes the place of the one before.
-use crate::tally::{DIFFERENCES, kind_of};
-use answer_text::bytes;
-use case_text::{between, first, rest, text_in};
+use crate::lines::{split_line, split_wanted};
+use crate::tally::{Kind, kind_of};
+use case_text::text_in;
 use model::Set;
 use std::io;
 use std::io::Write;
 
-// Whether a question asks for what the program prints for a text.
-fn is_print(question: &[u8]) -> bool {
-    if first(question) != b'p' {
-        return false;
-    }
-    first(rest(question, 1)) == b'r'
+// A question of a case.
+#[derive(Clone, Copy)]
+pub struct Asked<'a> {
+    // the text from the line that begins the case
+    pub case: &'a [u8],
+    pub question: &'a [u8],
+    // the text behind the question
+    pub behind: &'a [u8],
 }
 
-// A byte as it stands in the file of cases: a line feed as `|`.
-fn bar(b: u8) -> u8 {
-    if b == b'\n' { b'|' } else { b }
-}
-
-// The bytes as they stand in the file of cases.
-fn barred(bytes: [u8; 1024]) -> [u8; 1024] {
-    let mut shown = [0u8; 1024];
-    let mut i: usize = 0;
-    while i < 1024 {
-        shown[i] = bar(bytes[i]);
-        i += 1;
-    }
-    shown
-}
-
-// Writes what is printed for the text of a line.
+// Writes what is printed for the text of a line, each line feed as `|`.
 fn write_printed<W: Write>(out: &mut W, line: &[u8]) -> io::Result<()> {
-    let t = text_in(line);
-    let text = t.bytes;
-    let p = printing::answer(between(&text, 0, t.length));
-    let have = p.bytes;
-    let shown = barred(have);
-    bytes(out, b" ")?;
-    bytes(out, between(&shown, 0, p.length))
+    let mut page = printing::answer(&text_in(line));
+    for b in &mut page.bytes {
+        if *b == b'\n' {
+            *b = b'|';
+        }
+    }
+    out.write_all(b" ")?;
+    out.write_all(page.shown())
 }
 
-// Writes the library's answer to a question on the text of a line, or on a set.
-fn write_words<W: Write>(out: &mut W, line: &[u8], question: &[u8], s: Set) -> io::Result<()> {
-    if is_print(question) {
+// Writes the library's answer to a question on the text of a line, or on a set. `print` asks for what the program prints for the text.
+fn write_words<W: Write>(out: &mut W, line: &[u8], question: &[u8], set: &Set) -> io::Result<()> {
+    if question.starts_with(b"pr") {
         return write_printed(out, line);
     }
-    questions::answer(out, b"=", question, s)
+    questions::answer(out, b"=", question, set)
 }
 
-// Writes the library's answer as it should stand behind the question. What was written before is dropped, so that no earlier answer can be read for it.
-fn write_answer(answer: &mut Vec<u8>, line: &[u8], question: &[u8], s: Set) -> io::Result<()> {
-    answer.clear();
-    bytes(answer, b"=")?;
-    write_words(answer, line, question, s)?;
-    bytes(answer, b"\n")
-}
-
-// Prints a case whose last question is answered otherwise, and the answer.
-pub fn show_difference<W: Write>(out: &mut W, case: &[u8], answer: &[u8]) -> io::Result<()> {
-    bytes(out, case)?;
-    bytes(out, b"The library answers:\n")?;
-    bytes(out, answer)
-}
-
-// The kind under which a question is counted, in the case that begins with `line`. The answer is left in `answer`.
-pub fn compared(
-    answer: &mut Vec<u8>,
-    line: &[u8],
-    question: &[u8],
-    want: &[u8],
-    s: Set,
-) -> io::Result<usize> {
-    write_answer(answer, line, question, s)?;
-    if check::same(answer, want) {
-        return Ok(kind_of(first(question), want));
+impl Asked<'_> {
+    // Writes the library's answer as it should stand behind the question. What was written before is dropped, so that no earlier answer can be read for it.
+    fn write_answer(&self, answer: &mut Vec<u8>, set: &Set) -> io::Result<()> {
+        let line = split_line(self.case).map_or(self.case, |parts| parts.0);
+        answer.clear();
+        answer.write_all(b"=")?;
+        write_words(answer, line, self.question, set)?;
+        answer.write_all(b"\n")
     }
-    Ok(DIFFERENCES)
+
+    // The kind under which the question is counted. Prints the case if the question, its last one so far, is answered otherwise, and the answer.
+    pub fn compare<W: Write>(
+        &self,
+        out: &mut W,
+        answer: &mut Vec<u8>,
+        set: &Set,
+    ) -> io::Result<Kind> {
+        self.write_answer(answer, set)?;
+        let (wanted, rest) = split_wanted(self.behind);
+        let mut kind = Kind::Difference;
+        if answer.as_slice() == wanted {
+            kind = kind_of(self.question, wanted);
+        }
+        if kind == Kind::Difference {
+            out.write_all(self.case.strip_suffix(rest).unwrap_or(self.case))?;
+            out.write_all(b"The library answers:\n")?;
+            out.write_all(answer)?;
+        }
+        Ok(kind)
+    }
 }

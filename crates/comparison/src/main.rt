@@ -4,115 +4,69 @@
 #![tactic(auto)]
 
 mod answer;
+mod lines;
 mod tally;
 
-use answer::{compared, show_difference};
-use answer_text::bytes;
-use case_text::{between, built, first, line_at, next_line, no_set, rest};
+use answer::Asked;
+use case_text::build;
 use input_bytes::read_full;
-use model::Set;
+use lines::split_line;
+use readings::no_set;
 use std::alloc::Global;
 use std::fs::File;
 use std::io;
 use std::io::Write;
-use tally::{DIFFERENCES, Tally, no_tally, show_tally, with_one};
+use tally::Tally;
 
 // How many bytes there is room for. A file that fills it is not read whole.
 const ROOM: usize = 1048576;
 
 fn main(rt: HostRuntime) -> io::Result<()> {
-    let mut room = [0u8; ROOM];
-    let n = read_cases(&rt, &mut room)?;
+    let mut room = [0; ROOM];
+    let text = read_cases(&rt, &mut room)?;
     let mut out = io::writer(&rt);
-    if n == ROOM {
-        return bytes(&mut out, b"cases.txt is too long\n");
+    if text.len() == ROOM {
+        return writeln!(out, "cases.txt is too long");
     }
-    compare_first(&mut out, rt.alloc(), &room, n)
+    compare(&mut out, rt.alloc(), text)
 }
 
-// Reads the file of cases, and gives its length; 0 where it cannot be opened.
-fn read_cases(rt: &HostRuntime, room: &mut [u8; ROOM]) -> io::Result<usize> {
+// The file of cases, as far as there is room; nothing where it cannot be opened.
+fn read_cases<'a>(rt: &HostRuntime, room: &'a mut [u8; ROOM]) -> io::Result<&'a [u8]> {
     match File::open(rt, "cases.txt") {
-        Ok(mut file) => read_full(&mut file, room),
+        Ok(mut file) => {
+            let n = read_full(&mut file, room)?;
+            Ok(&room[..n])
+        }
         Err(e) => {
             eprintln!(rt; "cases.txt: {e}")?;
-            Ok(0)
+            Ok(&[])
         }
     }
 }
 
-// Goes through the lines of the first n bytes.
-fn compare_first<W: Write>(
-    out: &mut W,
-    alloc: Global,
-    room: &[u8; ROOM],
-    n: usize,
-) -> io::Result<()> {
-    compare(out, alloc, between(room, 0, n))
-}
-
-// Where the case of a line begins: at the line itself for one that gives a set or a text.
-fn case_at(line: &[u8], at: usize, before: usize) -> usize {
-    match first(line) {
-        b's' | b't' => at,
-        _ => before,
-    }
-}
-
-// The index behind the lines from an index on that begin with `=`.
-fn wanted_end(text: &[u8], from: usize) -> usize {
-    let mut at = from;
-    while at < text.len() {
-        if first(line_at(text, at)) != b'=' {
-            return at;
-        }
-        at = next_line(text, at);
-    }
-    at
-}
-
-// The tally after the line at an index, of the case that begins at `case`.
-fn asked<W: Write>(
-    out: &mut W,
-    answer: &mut Vec<u8>,
-    text: &[u8],
-    at: usize,
-    case: usize,
-    s: Set,
-    t: Tally,
-) -> io::Result<Tally> {
-    let line = line_at(text, at);
-    if first(line) != b'?' {
-        return Ok(t);
-    }
-    let from = next_line(text, at);
-    let end = wanted_end(text, from);
-    let kind = compared(
-        answer,
-        line_at(text, case),
-        rest(line, 2),
-        between(text, from, end),
-        s,
-    )?;
-    if kind == DIFFERENCES {
-        show_difference(out, between(text, case, end), answer)?;
-    }
-    Ok(with_one(t, kind))
-}
-
-// Goes through the lines.
+// Goes through the lines: `rest` is the text from a line on.
 fn compare<W: Write>(out: &mut W, alloc: Global, text: &[u8]) -> io::Result<()> {
     let mut answer = Vec::new(alloc);
-    let mut s = no_set();
-    let mut t = no_tally();
-    let mut case: usize = 0;
-    let mut at: usize = 0;
-    while at < text.len() {
-        let line = line_at(text, at);
-        case = case_at(line, at, case);
-        s = built(line, s);
-        t = asked(out, &mut answer, text, at, case, s, t)?;
-        at = next_line(text, at);
+    let mut set = no_set();
+    let mut tally = Tally::new();
+    let mut case = text;
+    let mut rest = text;
+    while let Some((line, behind)) = split_line(rest) {
+        if matches!(line.first(), Some(b's' | b't')) {
+            case = rest;
+        }
+        build(&mut set, line);
+        if line.first() == Some(&b'?') {
+            let question = line.get(2..).unwrap_or(&[]);
+            let asked = Asked {
+                case,
+                question,
+                behind,
+            };
+            tally.add(asked.compare(out, &mut answer, &set)?);
+        }
+        rest = behind;
     }
-    show_tally(out, t)
+    write!(out, "{tally}")
 }

@@ -1,117 +1,132 @@
 // How many answers there are of each kind: by the verdict, else by the number of the refusal, else by the question.
-use answer_text::{bytes, number};
-use case_text::{first, line_at, next_line, nth, numbers_in, rest};
-use std::io;
-use std::io::Write;
+use case_text::{nth, numbers_in};
+use questions::Question;
+use std::fmt;
 
-// The counts of the kinds in the order in which they are printed, and last that of the differences.
+// What an answer is counted as.
+#[derive(Clone, Copy, PartialEq, Eq)]
+pub enum Kind {
+    Fit,
+    UnfitInLo,
+    UnfitInHi,
+    Refused(u64),
+    Rows,
+    Runs,
+    Tables,
+    Parts,
+    WorstFinishes,
+    Margins,
+    Spans,
+    Picks,
+    Checks,
+    Difference,
+}
+
+impl fmt::Display for Kind {
+    fn fmt<W: fmt::Write>(&self, f: &mut fmt::Formatter<W>) -> fmt::Result {
+        match self {
+            Kind::Fit => write!(f, "fit"),
+            Kind::UnfitInLo => write!(f, "unfit in LO"),
+            Kind::UnfitInHi => write!(f, "unfit in HI"),
+            Kind::Refused(number) => write!(f, "refused {number}"),
+            Kind::Rows => write!(f, "rows"),
+            Kind::Runs => write!(f, "runs"),
+            Kind::Tables => write!(f, "tables"),
+            Kind::Parts => write!(f, "parts"),
+            Kind::WorstFinishes => write!(f, "worst finishes"),
+            Kind::Margins => write!(f, "margins"),
+            Kind::Spans => write!(f, "spans"),
+            Kind::Picks => write!(f, "picks"),
+            Kind::Checks => write!(f, "checks"),
+            Kind::Difference => write!(f, "differences"),
+        }
+    }
+}
+
+// The kind of an answer that is no verdict and no refusal. No other question should be agreed on.
+fn kind_of_question(question: &[u8]) -> Kind {
+    match Question::parse(question) {
+        Some(Question::Finishes) => Kind::Rows,
+        Some(Question::Run { .. }) => Kind::Runs,
+        Some(Question::Tables { .. }) => Kind::Tables,
+        Some(Question::Part { .. }) => Kind::Parts,
+        Some(Question::WorstFinishes) => Kind::WorstFinishes,
+        Some(Question::Margins) => Kind::Margins,
+        Some(Question::Span) => Kind::Spans,
+        Some(Question::Pick { .. }) => Kind::Picks,
+        Some(Question::Checks) => Kind::Checks,
+        Some(Question::Judge) | None => Kind::Difference,
+    }
+}
+
+// The kind of an answer to a question: in each line of an answer the words stand behind two bytes.
+pub fn kind_of(question: &[u8], answer: &[u8]) -> Kind {
+    let line = answer.split(|b| *b == b'\n').next().unwrap_or(&[]);
+    let number = nth(&numbers_in(line), 0);
+    match answer.get(2) {
+        Some(b'F') => Kind::Fit,
+        Some(b'U') if number == 0 => Kind::UnfitInLo,
+        Some(b'U') => Kind::UnfitInHi,
+        Some(b'R' | b'r') if matches!(number, 1..=10) => Kind::Refused(number),
+        Some(b'R' | b'r') => Kind::Difference,
+        _ => kind_of_question(question),
+    }
+}
+
+// How many there are of each kind, in the order in which they are printed.
 #[derive(Clone, Copy)]
 pub struct Tally {
-    pub counts: [u64; 23],
+    counts: [(Kind, u64); 23],
 }
 
-const FIT: usize = 0;
-
-const UNFIT_LO: usize = 1;
-
-const UNFIT_HI: usize = 2;
-
-const REFUSED: usize = 2;
-
-pub const DIFFERENCES: usize = 22;
-
-// Nothing counted.
-pub fn no_tally() -> Tally {
-    Tally { counts: [0; 23] }
-}
-
-// One more of a kind.
-pub fn with_one(t: Tally, kind: usize) -> Tally {
-    if kind >= 23 {
-        return t;
+impl Tally {
+    // Nothing counted.
+    pub fn new() -> Tally {
+        Tally {
+            counts: [
+                (Kind::Fit, 0),
+                (Kind::UnfitInLo, 0),
+                (Kind::UnfitInHi, 0),
+                (Kind::Refused(1), 0),
+                (Kind::Refused(2), 0),
+                (Kind::Refused(3), 0),
+                (Kind::Refused(4), 0),
+                (Kind::Refused(5), 0),
+                (Kind::Refused(6), 0),
+                (Kind::Refused(7), 0),
+                (Kind::Refused(8), 0),
+                (Kind::Refused(9), 0),
+                (Kind::Refused(10), 0),
+                (Kind::Rows, 0),
+                (Kind::Runs, 0),
+                (Kind::Tables, 0),
+                (Kind::Parts, 0),
+                (Kind::WorstFinishes, 0),
+                (Kind::Margins, 0),
+                (Kind::Spans, 0),
+                (Kind::Picks, 0),
+                (Kind::Checks, 0),
+                (Kind::Difference, 0),
+            ],
+        }
     }
-    let mut counts = t.counts;
-    counts[kind] = counts[kind].wrapping_add(1);
-    Tally { counts }
-}
 
-// The kind of an answer that is no verdict and no refusal, by the first letter of the question. No other question should be agreed on.
-fn kind_of_question(letter: u8) -> usize {
-    match letter {
-        b'f' => 13,
-        b'r' => 14,
-        b't' => 15,
-        b'p' => 16,
-        b'w' => 17,
-        b'm' => 18,
-        b's' => 19,
-        b'a' => 20,
-        b'c' => 21,
-        _ => DIFFERENCES,
-    }
-}
-
-// The kind of a refusal by its number.
-fn kind_of_refusal(x: u64) -> usize {
-    if x == 0 {
-        return DIFFERENCES;
-    }
-    if x > 10 {
-        return DIFFERENCES;
-    }
-    REFUSED + x as usize
-}
-
-// The kind of an answer to the question with this first letter.
-pub fn kind_of(letter: u8, answer: &[u8]) -> usize {
-    let x = nth(numbers_in(line_at(answer, 0)), 0);
-    match first(rest(answer, 2)) {
-        b'F' => FIT,
-        b'U' => if x == 0 { UNFIT_LO } else { UNFIT_HI },
-        b'R' | b'r' => kind_of_refusal(x),
-        _ => kind_of_question(letter),
+    // One more of a kind.
+    pub fn add(&mut self, kind: Kind) {
+        for (counted, count) in &mut self.counts {
+            if *counted == kind {
+                *count = count.wrapping_add(1);
+            }
+        }
     }
 }
 
-// Prints each count after its name.
-pub fn show_tally<W: Write>(out: &mut W, t: Tally) -> io::Result<()> {
-    let names = b"fit
-unfit in LO
-unfit in HI
-refused 1
-refused 2
-refused 3
-refused 4
-refused 5
-refused 6
-refused 7
-refused 8
-refused 9
-refused 10
-rows
-runs
-tables
-parts
-worst finishes
-margins
-spans
-picks
-checks
-differences
-";
-    show_counts(out, t, names)
-}
-
-// Prints each count after its name, a line of `names`.
-fn show_counts<W: Write>(out: &mut W, t: Tally, names: &[u8]) -> io::Result<()> {
-    let mut at: usize = 0;
-    let mut i: usize = 0;
-    while i < 23 {
-        bytes(out, line_at(names, at))?;
-        number(out, t.counts[i])?;
-        bytes(out, b"\n")?;
-        at = next_line(names, at);
-        i += 1;
+// Each count after its name.
+impl fmt::Display for Tally {
+    fn fmt<W: fmt::Write>(&self, f: &mut fmt::Formatter<W>) -> fmt::Result {
+        for (kind, count) in &self.counts {
+            writeln!(f, "{kind} {count}")?;
+        }
+        Ok(())
     }
-    Ok(())
 }

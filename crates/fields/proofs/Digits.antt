@@ -1,26 +1,25 @@
 -- A number of the text, digit by digit.
 --   here                       == the text from a cursor that stands before its end: the byte there, and what is behind it
 --   Goes .. i v                == what is read from the cursor i on, behind the digits of v, is what is to be found
---   more-start, more-next      == what is to be found does not change while the digits go on
+--   more-next                  == what is to be found does not change while the digits go on
 --   more-ends, number-ends     == the text ends
 --   more_stops, more-done      == the byte is no further digit; it is the one behind the number
 --   number_stops, number-goes  == the byte is no first digit; it is one
---   begins-digit, grows-digit  == what the tests of a byte say
 -- Assumes nothing.
 use Prim.Native.Nat.{ℕ, ◌+◌, ◌-◌, ◌*◌, ◌≤◌, ◌<◌}
-use mathlib.Core.Path.{◌≡◌, refl, sym, ◌∙◌, ap}
+use mathlib.Core.Path.{◌≡◌, sym, ◌∙◌, ap}
 use mathlib.Core.Bool.{true, false}
 use mathlib.Core.List.{List, ◌∷◌}
+use Rattle.std.specs.Prelude.{Result, Ok, Err}
 use native.Mathlib.Numerals.{add-one}
 use native.Mathlib.Omega.{arith}
-use borrow.Author.Tests.{eq-eqb, ne_eqb, leb-true}
+use borrow.Author.Tests.{eq-eqb, ne_eqb}
 use lib.ListN.{length, get_or, drop, drop_of_length-le}
 use lib.Seq.{drop-cons, drop-length}
-use lib.Dec.{leb, ltb}
-use Rattle.laws.proofs.Bools.{and_l, and_r}
 use Rattle.forms.specs.Forms.{begins, grows, more, number}
-use Rattle.fields.specs.declared.Field.{Field}
-use Rattle.fields.specs.declared.Field.TheVariants.{Number, Stuck}
+use Rattle.forms.proofs.Numbers.{grows_e}
+use Rattle.fields.specs.declared.Got.{Got}
+use Rattle.fields.specs.declared.Stuck.{Stuck}
 use Rattle.fields.specs.Cursors.{piece_at, reached, Found}
 
 -- the text from a cursor that stands before its end
@@ -31,22 +30,19 @@ module _ (t : List ℕ) (at most c n : ℕ) where
   -- what is read from the cursor i on, behind the digits of v, is what is to be found
   pub record Goes (i v : ℕ) : Type 0 where
     pub same : more most c v (drop i t) ≡ more most c n (drop at t)
-    pub within : i ≤ length t
-
-  pub more-start : at ≤ length t → Goes at n
-  more-start h = record { same = refl; within = h }
+    pub small : v ≤ 65535
 
   module _ (i v : ℕ) (g : Goes i v) where
-    pub more-ends : length t ≤ i → Found t at (more most c n) (Stuck i)
+    pub more-ends : length t ≤ i → Found t at (more most c n) (Err (record { at = length t }))
     unfolding more piece_at reached
     more-ends h =
         record {
-          piece = rw (drop_of_length-le t h) (sym (ap (more most c v) (drop_of_length-le t h)) ∙ g.same);
-          within = g.within;
+          piece = rw (drop-length t) (sym (ap (more most c v) (drop_of_length-le t h)) ∙ g.same);
+          within = omega arith;
         }
 
     module _ (h : i < length t) where
-      pub more-done : get_or t i 0 ≡ c → Found t at (more most c n) (Number (record { value = v; at = i + 1 }))
+      pub more-done : get_or t i 0 ≡ c → Found t at (more most c n) (Ok (record { value = v; at = i + 1 }))
       unfolding more piece_at reached
       more-done e =
           record {
@@ -55,45 +51,34 @@ module _ (t : List ℕ) (at most c n : ℕ) where
           }
 
       module _ (e : get_or t i 0 ≡ c → ⊥) where
-        pub more_stops : grows most v (get_or t i 0) ≡ false → Found t at (more most c n) (Stuck i)
+        pub more_stops : grows most v (get_or t i 0) ≡ false → Found t at (more most c n) (Err (record { at = i }))
         unfolding more piece_at reached
         more_stops f =
             record {
               piece = sym (sym g.same ∙ rw (here t i h, ne_eqb (get_or t i 0) c e, f));
-              within = g.within;
-            }
-
-        pub more-next : grows most v (get_or t i 0) ≡ true → Goes (i + 1) (v * 10 + (get_or t i 0 - 48))
-        unfolding more
-        more-next f =
-            record {
-              same = sym (sym g.same ∙ rw (here t i h, ne_eqb (get_or t i 0) c e, f));
               within = omega arith;
             }
 
+        pub more-next : most ≤ 65535 → grows most v (get_or t i 0) ≡ true → Goes (i + 1) (v * 10 + (get_or t i 0 - 48))
+        unfolding more
+        more-next m f =
+            record {
+              same = sym (sym g.same ∙ rw (here t i h, ne_eqb (get_or t i 0) c e, f));
+              small = omega (arith, grows_e most v (get_or t i 0) f);
+            }
+
 module _ (t : List ℕ) (at least most c : ℕ) where
-  pub number-ends : length t ≤ at → Found t at (number least most c) (Stuck (length t))
+  pub number-ends : length t ≤ at → Found t at (number least most c) (Err (record { at = length t }))
   unfolding number piece_at reached
   number-ends h = record { piece = rw (drop_of_length-le t h, drop-length t); within = omega arith }
 
   module _ (h : at < length t) where
-    pub number_stops : begins least most (get_or t at 0) ≡ false → Found t at (number least most c) (Stuck at)
+    pub number_stops : begins least most (get_or t at 0) ≡ false → Found t at (number least most c) (Err (record { at = at }))
     unfolding number piece_at reached
     number_stops f = record { piece = sym (rw (here t at h, f)); within = omega arith }
 
     -- what is read behind the first digit is what is to be found
-    pub number-goes : (r : Field) → begins least most (get_or t at 0) ≡ true → Found t (at + 1) (more most c (get_or t at 0 - 48)) r
+    pub number-goes : (r : Result Got Stuck) → begins least most (get_or t at 0) ≡ true → Found t (at + 1) (more most c (get_or t at 0 - 48)) r
         → Found t at (number least most c) r
     unfolding number
     number-goes r b f = record { piece = f.piece ∙ sym (rw (here t at h, b)); within = f.within }
-
-pub begins-digit : (least most b : ℕ) → begins least most b ≡ true → 48 ≤ b
-unfolding begins
-begins-digit least most b h = leb-true 48 b (and_l (leb 48 b) _ h)
-
-pub grows-digit : (most n b : ℕ) → grows most n b ≡ true → (48 ≤ b) × (b ≤ 57) × (n * 10 + (b - 48) ≤ most)
-unfolding grows
-grows-digit most n b h =
-    let u = and_r (leb 48 b) _ h in
-    let v = and_r (ltb 0 n) _ (and_r (leb b 57) _ u) in
-    (leb-true 48 b (and_l (leb 48 b) _ h), leb-true b 57 (and_l (leb b 57) _ u), leb-true (n * 10 + (b - 48)) most v)

@@ -5,6 +5,7 @@
 use Prim.Native.Nat.{ℕ, ◌≤◌}
 use mathlib.Core.Path.{◌≡◌, refl, sym, ◌∙◌, ap}
 use mathlib.Core.List.{List, [], ◌∷◌, ◌++◌, append-nil}
+use Rattle.std.specs.Prelude.{Result, Ok, Err}
 use native.Mathlib.Omega.{arith}
 use lib.ListN.{length, drop, length-drop}
 use Rattle.model.specs.Texts.{no_set}
@@ -13,10 +14,7 @@ use Rattle.forms.specs.Forms.Form.{done}
 use Rattle.forms.specs.Forms.Scanned.{read, stuck}
 use Rattle.forms.proofs.Lines.{bytes-scan, bytes_read}
 use Rattle.fields.specs.declared.Got.{Got}
-use Rattle.fields.specs.declared.Field.{Field}
-use Rattle.fields.specs.declared.Field.TheVariants as field
-use Rattle.fields.specs.declared.Step.{Step}
-use Rattle.fields.specs.declared.Step.TheVariants as step
+use Rattle.fields.specs.declared.Stuck.{Stuck}
 use Rattle.fields.specs.Cursors.{piece_at, reached, Found, onward, stands, Steps}
 
 -- a place of the text is known by what is left behind it
@@ -26,21 +24,25 @@ same_place t p q h k e = omega (arith, length-drop p t, length-drop q t, ap leng
 same-got : (g h : Got) → g.value ≡ h.value → g.at ≡ h.at → g ≡ h
 same-got g h a b = λ i. record { value = a i; at = b i }
 
-pub one_field : (t : List ℕ) (at : ℕ) (part : List ℕ → Piece) (r q : Field) → Found t at part r → Found t at part q → r ≡ q
+-- so is a place where it is stuck
+same_stuck : (t : List ℕ) (p q : Stuck) → p.at ≤ length t → q.at ≤ length t → drop p.at t ≡ drop q.at t → p ≡ q
+same_stuck t p q h k e = λ i. record { at = same_place t p.at q.at h k e i }
+
+pub one_field : (t : List ℕ) (at : ℕ) (part : List ℕ → Piece) (r q : Result Got Stuck) → Found t at part r → Found t at part q → r ≡ q
 one_field t at part r q a b = one r q (a.piece ∙ sym b.piece) a.within b.within
   where
-    one : (r q : Field) → piece_at t r ≡ piece_at t q → reached r ≤ length t → reached q ≤ length t → r ≡ q
-    one (field.Number g) (field.Number h) e v w =
+    one : (r q : Result Got Stuck) → piece_at t r ≡ piece_at t q → reached r ≤ length t → reached q ≤ length t → r ≡ q
+    one (Ok g) (Ok h) e v w =
         unfold piece_at reached in
         let x : g.value ≡ h.value = cc in
         let y : drop g.at t ≡ drop h.at t = cc in
-        ap field.Number (same-got g h x (same_place t g.at h.at v w y))
-    one (field.Number g) (field.Stuck p) e v w = unfold piece_at in let z : ◌≡◌ {A = ℕ} 0 1 = cc in absurd (omega arith)
-    one (field.Stuck p) (field.Number g) e v w = unfold piece_at in let z : ◌≡◌ {A = ℕ} 0 1 = cc in absurd (omega arith)
-    one (field.Stuck p) (field.Stuck q) e v w =
+        ap Ok (same-got g h x (same_place t g.at h.at v w y))
+    one (Ok g) (Err p) e v w = unfold piece_at in let z : ◌≡◌ {A = ℕ} 0 1 = cc in absurd (omega arith)
+    one (Err p) (Ok g) e v w = unfold piece_at in let z : ◌≡◌ {A = ℕ} 0 1 = cc in absurd (omega arith)
+    one (Err p) (Err q) e v w =
         unfold piece_at reached in
-        let y : drop p t ≡ drop q t = cc in
-        ap field.Stuck (same_place t p q v w y)
+        let y : drop p.at t ≡ drop q.at t = cc in
+        ap Err (same_stuck t p q v w y)
 
 -- a form that accepts one text
 only : List ℕ → Form
@@ -61,26 +63,26 @@ only_one u v e =
     let r = bytes_read u (done no_set) v no_set e in
     r.1 ∙ ap (λ w. u ++ w) (none_left r.0 r.2) ∙ append-nil u
 
-pub one_step : (t : List ℕ) (at : ℕ) (part : Form → Form) (r q : Step) → Steps t at part r → Steps t at part q → r ≡ q
+pub one_step : (t : List ℕ) (at : ℕ) (part : Form → Form) (r q : Result ℕ Stuck) → Steps t at part r → Steps t at part q → r ≡ q
 one_step t at part r q a b = one r q (λ f. sym (a.goes f) ∙ b.goes f) a.within b.within
   where
-    one : (r q : Step) → ((f : Form) → onward t f r ≡ onward t f q) → stands r ≤ length t → stands q ≤ length t → r ≡ q
-    one (step.At p) (step.At q) e v w =
+    one : (r q : Result ℕ Stuck) → ((f : Form) → onward t f r ≡ onward t f q) → stands r ≤ length t → stands q ≤ length t → r ≡ q
+    one (Ok p) (Ok q) e v w =
         unfold onward stands in
         let u = drop p t in
-        ap step.At (same_place t p q v w (sym (only_one u (drop q t) (sym (e (only u)) ∙ only_own u))))
-    one (step.At p) (step.Stuck q) e v w =
+        ap Ok (same_place t p q v w (sym (only_one u (drop q t) (sym (e (only u)) ∙ only_own u))))
+    one (Ok p) (Err q) e v w =
         unfold onward in
-        let x : read no_set ≡ stuck (drop q t) = sym (only_own (drop p t)) ∙ e (only (drop p t)) in
+        let x : read no_set ≡ stuck (drop q.at t) = sym (only_own (drop p t)) ∙ e (only (drop p t)) in
         let z : ◌≡◌ {A = ℕ} 0 1 = cc in
         absurd (omega arith)
-    one (step.Stuck p) (step.At q) e v w =
+    one (Err p) (Ok q) e v w =
         unfold onward in
-        let x : read no_set ≡ stuck (drop p t) = sym (only_own (drop q t)) ∙ sym (e (only (drop q t))) in
+        let x : read no_set ≡ stuck (drop p.at t) = sym (only_own (drop q t)) ∙ sym (e (only (drop q t))) in
         let z : ◌≡◌ {A = ℕ} 0 1 = cc in
         absurd (omega arith)
-    one (step.Stuck p) (step.Stuck q) e v w =
+    one (Err p) (Err q) e v w =
         unfold onward stands in
-        let x : stuck (drop p t) ≡ stuck (drop q t) = e (done no_set) in
-        let y : drop p t ≡ drop q t = cc in
-        ap step.Stuck (same_place t p q v w y)
+        let x : stuck (drop p.at t) ≡ stuck (drop q.at t) = e (done no_set) in
+        let y : drop p.at t ≡ drop q.at t = cc in
+        ap Err (same_stuck t p q v w y)

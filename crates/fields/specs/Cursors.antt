@@ -3,35 +3,33 @@
 --   Found t at part r    == from the cursor on, the answer r is what the definition `part` reads
 --   onward t f r         == the scan of what is left, by the form f, where the step r leads;  stands r: its cursor
 --   Steps t at part r    == from the cursor on, the step r is what the scan of `part` does, whatever form follows it
-use Rattle.std.specs.Prelude.{ℕ, ◌≤◌, ◌≡◌, List, length, drop}
+use Rattle.std.specs.Prelude.{ℕ, ◌≤◌, ◌≡◌, List, length, drop, Result, Ok, Err}
 use Rattle.forms.specs.Forms.{Piece, Form, Scanned, scan}
 use Rattle.forms.specs.Forms.Piece.{got, short}
 use Rattle.forms.specs.Forms.Scanned.{stuck}
-use Rattle.fields.specs.declared.Field.{Field}
-use Rattle.fields.specs.declared.Field.TheVariants as field
-use Rattle.fields.specs.declared.Step.{Step}
-use Rattle.fields.specs.declared.Step.TheVariants as step
+use Rattle.fields.specs.declared.Got.{Got}
+use Rattle.fields.specs.declared.Stuck.{Stuck}
 
-unfoldable pub piece_at : List ℕ → Field → Piece
-piece_at t (field.Number g) = got g.value (drop g.at t)
-piece_at t (field.Stuck p) = short (drop p t)
+unfoldable pub piece_at : List ℕ → Result Got Stuck → Piece
+piece_at t (Ok g) = got g.value (drop g.at t)
+piece_at t (Err s) = short (drop s.at t)
 
-unfoldable pub reached : Field → ℕ
-reached (field.Number g) = g.at
-reached (field.Stuck p) = p
+unfoldable pub reached : Result Got Stuck → ℕ
+reached (Ok g) = g.at
+reached (Err s) = s.at
 
-pub record Found (t : List ℕ) (at : ℕ) (part : List ℕ → Piece) (r : Field) : Type 0 where
+pub record Found (t : List ℕ) (at : ℕ) (part : List ℕ → Piece) (r : Result Got Stuck) : Type 0 where
   pub piece : piece_at t r ≡ part (drop at t)
   pub within : reached r ≤ length t
 
-unfoldable pub onward : List ℕ → Form → Step → Scanned
-onward t f (step.At p) = scan f (drop p t)
-onward t f (step.Stuck p) = stuck (drop p t)
+unfoldable pub onward : List ℕ → Form → Result ℕ Stuck → Scanned
+onward t f (Ok p) = scan f (drop p t)
+onward t f (Err s) = stuck (drop s.at t)
 
-unfoldable pub stands : Step → ℕ
-stands (step.At p) = p
-stands (step.Stuck p) = p
+unfoldable pub stands : Result ℕ Stuck → ℕ
+stands (Ok p) = p
+stands (Err s) = s.at
 
-pub record Steps (t : List ℕ) (at : ℕ) (part : Form → Form) (r : Step) : Type 0 where
+pub record Steps (t : List ℕ) (at : ℕ) (part : Form → Form) (r : Result ℕ Stuck) : Type 0 where
   pub goes : (f : Form) → scan (part f) (drop at t) ≡ onward t f r
   pub within : stands r ≤ length t

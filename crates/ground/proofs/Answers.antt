@@ -1,19 +1,18 @@
 -- What an answer says of the set.
---   good-first      == a first refusal that is good is refusal 0 with place 0
 --   found_passes    == a judgement that finds a verdict says that the set passes the checks; and the verdict and the times beside it are the model's
 --   unfit_misses    == of an unfit set some run misses what it requires;  misses_unfit: and then it is unfit
 --   run-good        == a run of a set that passes is not refused: the finishes are those of the run
 -- Assumes nothing.
+use Rattle.std.specs.Prelude.{Err as Refused, Ok as Found, Result}
 use Prim.Native.Nat.{ℕ}
 use mathlib.Core.Path.{◌≡◌, refl, sym, ◌∙◌, ap}
 use mathlib.Core.Bool.{Bool, true, false, not}
 use mathlib.Core.List.{List, [], ◌∷◌}
 use borrow.Author.Tests.{le-leb}
+use Rattle.checks.proofs.Checked.{first_good}
 use Rattle.model.specs.declared.Set.{Set}
 use Rattle.model.specs.declared.Refusal.{Refusal}
 use Rattle.model.specs.declared.Judged.{Judged}
-use Rattle.model.specs.declared.Judgement.{Judgement}
-use Rattle.model.specs.declared.Judgement.TheVariants.{Refused, Found}
 use Rattle.model.specs.declared.Miss.{Miss}
 use Rattle.model.specs.declared.Verdict.{Verdict}
 use Rattle.model.specs.declared.Verdict.TheVariants.{Fit, Unfit}
@@ -30,26 +29,21 @@ use Rattle.laws.proofs.Bools.{split, clash, and_i, not_i_false}
 use Rattle.laws.proofs.Lists.{any_i}
 use Rattle.laws.proofs.Places.{members_i}
 
-good-first : (l : List Refusal) → is_good (first_of l) ≡ true → first_of l ≡ good
-unfolding first_of
-good-first [] h = refl
-good-first (r ∷ l) h = split (is_good r) (λ t. rw t (good-first l (rw t at h))) (λ f. clash (rw f at h) f)
-
 pub good_passes : (s : Set) → is_good (refusal (view s)) ≡ true → Passes s
 unfolding refusal
-good_passes s h = good-first (checks (view s)) h
+good_passes s h = first_good (checks (view s)) h
 
 -- the judgement -----------------------------------------------------------------------------------------------------------------------
 
-is_found : Judgement → Bool
+is_found : Result Verdict Refusal → Bool
 is_found (Refused r) = false
 is_found (Found x) = true
 
-found_of : Verdict → Judgement → Verdict
+found_of : Verdict → Result Verdict Refusal → Verdict
 found_of y (Refused r) = y
 found_of y (Found x) = x
 
-judgement_of : Judged → Judgement
+judgement_of : Judged → Result Verdict Refusal
 judgement_of r = r.judgement
 
 -- of a set that passes the judgement is its verdict

@@ -6,6 +6,7 @@
 --   pick_at_P      == at instant 0, when job 2 has not arrived, job 3 is picked;  part_at_P: a part of the HI table, and an instant past its end
 --   crowded        == P with another job and other entries in the room beyond its counts;  crowded_at_P: it is not P, and it is judged as P
 -- Assumes nothing.
+use Rattle.std.specs.Prelude.{Some as JobPick, Ok as Found}
 use Prim.Native.Nat.{ℕ, ◌≤◌, ◌<◌}
 use mathlib.Core.Path.{◌≡◌, refl, sym, ◌∙◌, ap}
 use mathlib.Core.Bool.{true, false}
@@ -15,11 +16,9 @@ use lib.IntN.{pos}
 use lib.ListN.{get_or, replicate}
 use Rattle.model.specs.declared.Level.TheVariants.{Hi}
 use Rattle.model.specs.declared.Set.{Set}
-use Rattle.model.specs.declared.Pick.TheVariants.{Job as JobPick}
 use Rattle.model.specs.declared.Ran.{Ran}
 use Rattle.model.specs.declared.Scenario.TheVariants.{Hi as HiOf}
 use Rattle.model.specs.declared.Judged.{Judged}
-use Rattle.model.specs.declared.Judgement.TheVariants.{Found}
 use Rattle.model.specs.declared.Verdict.{Verdict}
 use Rattle.model.specs.declared.Verdict.TheVariants.{Fit, Unfit}
 use Rattle.model.specs.Lists.{at, from, numbers, only, first, any, mem, least, total, largest, cut}

@@ -4,6 +4,7 @@
 --   missed_call, unfit_call  == what it means that this call judged it unfit
 --   margins_call             == what it means that a margin is negative
 -- Assumes nothing.
+use Rattle.std.specs.Prelude.{Ok as Found}
 use Prim.Native.Nat.{ℕ, ◌≤◌, ◌<◌}
 use mathlib.Core.Path.{◌≡◌, sym, ◌∙◌, ap, subst}
 use mathlib.Core.Bool.{true, false}
@@ -15,7 +16,6 @@ use Rattle.model.specs.declared.Set.{Set}
 use Rattle.model.specs.declared.Miss.{Miss}
 use Rattle.model.specs.declared.Ran.{Ran}
 use Rattle.model.specs.declared.Judged.{Judged}
-use Rattle.model.specs.declared.Judgement.TheVariants.{Found}
 use Rattle.model.specs.declared.Verdict.TheVariants.{Fit, Unfit}
 use Rattle.model.specs.Lists.{at}
 use Rattle.model.specs.Sets.{job_at, view}

@@ -4,26 +4,61 @@
 --   one     == two values that are equal to a third are equal
 --   FN-one  == the promise of the function FN admits one answer
 -- Assumes nothing.
+use Rattle.std.specs.Prelude.{Option, Result}
 use Prim.Native.Nat.{ℕ}
 use mathlib.Core.Path.{◌≡◌, sym, ◌∙◌}
 use mathlib.Core.Bool.{Bool}
 use mathlib.Core.List.{List}
 use lib.IntN.{ℤ}
+use Rattle.model.specs.declared.Level.{Level}
+use Rattle.model.specs.declared.Job.{Job}
+use Rattle.model.specs.declared.Order.{Order}
 use Rattle.model.specs.declared.Set.{Set}
-use Rattle.model.specs.declared.Pick.{Pick}
-use Rattle.model.specs.declared.Switch.{Switch}
 use Rattle.model.specs.declared.Refusal.{Refusal}
 use Rattle.model.specs.declared.Ran.{Ran}
 use Rattle.model.specs.declared.Judged.{Judged}
 use Rattle.model.specs.declared.Assessed.{Assessed}
 use Rattle.columns.specs.declared.Columns.{Columns}
-use Rattle.ground.specs.Promises.{RefusalOf, SpanOf, ColumnsOf, Assesses, Judges, FinishRows, RowsRefusal, WorstFinishes, Margins, Executes, Slots}
+use Rattle.ground.specs.Promises.{IsHi, Untimely, Unbudgeted, Places, Members, FaultOf, Told, Checked, Checks, RefusalOf, SpanOf, ColumnsOf, Orders, ChecksRoom, Assesses, Judges, FinishRows, RowsRefusal, WorstFinishes, Margins, Executes, Slots}
 use Rattle.ground.specs.Promises.{Picks, Parts, PartRefusal, MakesTables, InRange, Outruns, IsEnabled, Misses, Worse, MarginOf}
 
 pub one : {A : Type 0} {x y z : A} → x ≡ z → y ≡ z → x ≡ y
 one p q = p ∙ sym q
 
+-- rules -------------------------------------------------------------------------------------------------------------------------------
+
+-- Whether a level is HI, and whether a job's deadline or its budgets break their rule.
+pub is_hi_one : (l : Level) (x y : Bool) → IsHi l x → IsHi l y → x ≡ y
+is_hi_one l x y p q = one p q
+
+pub untimely_one : (j : Job) (x y : Bool) → Untimely j x → Untimely j y → x ≡ y
+untimely_one j x y p q = one p q
+
+pub unbudgeted_one : (j : Job) (x y : Bool) → Unbudgeted j x → Unbudgeted j y → x ≡ y
+unbudgeted_one j x y p q = one p q
+
+-- How many of n jobs have a place, and the jobs of a set that have one.
+pub places_one : (n x y : ℕ) → Places n x → Places n y → x ≡ y
+places_one n x y p q = one p q
+
+pub members_one : (s : Set) (x y : List Job) → Members s x → Members s y → x ≡ y
+members_one s x y p q = one p.3.0 q.3.0
+
+-- The first position of an order whose entry is not marked or repeats.
+pub fault_of_one : (ok : List Bool) (o : Order) (x y : Option ℕ) → FaultOf ok o x → FaultOf ok o y → x ≡ y
+fault_of_one ok o x y p q = one p.3 q.3
+
 -- checks and columns ------------------------------------------------------------------------------------------------------------------
+
+-- The result of the checks: nothing, or the refusal.
+pub told_one : (r : Result (Unit {0}) Refusal) (x y : Refusal) → Told r x → Told r y → x ≡ y
+told_one r x y p q = one p q
+
+pub checked_one : (r : Refusal) (x y : Result (Unit {0}) Refusal) → Checked r x → Checked r y → x ≡ y
+checked_one r x y p q = one p q
+
+pub check_one : (s : Set) (x y : Result (Unit {0}) Refusal) → Checks s x → Checks s y → x ≡ y
+check_one s x y p q = one p.2 q.2
 
 -- The refusal of a set by checks 2 to 7: its number, and its place.
 pub refusal_of_one : (s : Set) (x y : Refusal) → RefusalOf s x → RefusalOf s y → x ≡ y
@@ -37,10 +72,18 @@ span_of_one s x y p q = one p q
 pub columns_of_one : (s : Set) (x y : Columns) → ColumnsOf s x → ColumnsOf s y → x ≡ y
 columns_of_one s x y p q = one p q
 
+-- What the order of a mode holds.
+pub order_one : (k : Columns) (m : Level) (x y : List ℕ) → Orders k m x → Orders k m y → x ≡ y
+order_one k m x y p q = one p.3 q.3
+
+-- Whether lent tables are long enough.
+pub check_room_one : (s : Set) (lo hi : ℕ) (x y : Result (Unit {0}) Refusal) → ChecksRoom s lo hi x → ChecksRoom s lo hi y → x ≡ y
+check_room_one s lo hi x y p q = one p.2 q.2
+
 -- verdicts, runs, picks and parts ----------------------------------------------------------------------------------------------------
 
 -- Who is picked, from what the three lent slices hold: a job, or idle.
-pub pick_one : (o a : List ℕ) (d : List Bool) (t : ℕ) (x y : Pick) → Picks o a d t x → Picks o a d t y → x ≡ y
+pub pick_one : (o a : List ℕ) (d : List Bool) (t : ℕ) (x y : Option ℕ) → Picks o a d t x → Picks o a d t y → x ≡ y
 pick_one o a d t x y p q = one p.4 q.4
 
 -- The judgement, and the times beside it.
@@ -103,7 +146,7 @@ pub is_enabled_one : (h l lo hi : ℕ) (r x y : Bool) → IsEnabled h l lo hi r 
 is_enabled_one h l lo hi r x y p q = one p q
 
 -- Whether a finish misses a deadline.
-pub misses_one : (h : Bool) (d f : ℕ) (w : Switch) (x y : Bool) → Misses h d f w x → Misses h d f w y → x ≡ y
+pub misses_one : (h : Bool) (d f : ℕ) (w : Option ℕ) (x y : Bool) → Misses h d f w x → Misses h d f w y → x ≡ y
 misses_one h d f w x y p q = one p q
 
 -- The worse of two finishes, and the margin.

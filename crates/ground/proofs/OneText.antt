@@ -4,22 +4,24 @@
 use Prim.Native.Nat.{ℕ}
 use mathlib.Core.Path.{◌≡◌, sym, ◌∙◌, ap}
 use mathlib.Core.List.{List}
+use Rattle.std.specs.Prelude.{Result}
 use Rattle.model.specs.declared.Level.{Level}
 use Rattle.model.specs.declared.Job.{Job}
 use Rattle.model.specs.declared.Set.{Set}
 use Rattle.model.specs.declared.Refusal.{Refusal}
+use Rattle.model.specs.declared.Scenario.{Scenario}
 use Rattle.model.specs.declared.Miss.{Miss}
 use Rattle.model.specs.declared.Reading.{Reading as ReadingOf}
 use Rattle.model.specs.Printed.{printed}
 use Rattle.forms.proofs.Answers.{one_reading}
-use Rattle.fields.specs.declared.Field.{Field}
-use Rattle.fields.specs.declared.Step.{Step}
+use Rattle.fields.specs.declared.Got.{Got}
+use Rattle.fields.specs.declared.Stuck.{Stuck}
 use Rattle.fields.proofs.Unique.{one_field, one_step}
 use Rattle.pages.specs.declared.Page.{Page}
 use Rattle.pages.specs.Pages.{page}
 use Rattle.ground.specs.Texts.{Reading, Answering, Numbering, Expecting, Ending}
 use Rattle.ground.specs.Texts.{LevelNumber, JobOf, NoJob, NoSet, MadeOf, RefusedAt}
-use Rattle.ground.specs.Texts.{EmptyPage, WithByte, WithBytes, WithDecimal, WithField, WithMargin, RefusedPage, MissPage, WithJob}
+use Rattle.ground.specs.Texts.{EmptyPage, WithByte, WithBytes, WithDecimal, WithField, WithMargin, RefusedPage, MissPage, WithJob, Shows, ScenarioNumber}
 use Rattle.ground.proofs.OneAnswer.{one}
 
 -- plan_text and printing ------------------------------------------------------------------------------------------------------------
@@ -35,13 +37,13 @@ answer_one t x y (κs, p, (r, a, e)) (κs', p', (q, b, f)) = e ∙ ap (λ u. pag
 -- fields ----------------------------------------------------------------------------------------------------------------------------
 
 -- A number at a place of a text, and given bytes there.
-pub number_one : (t : List ℕ) (a l m b : ℕ) (x y : Field) → Numbering t a l m b x → Numbering t a l m b y → x ≡ y
+pub number_one : (t : List ℕ) (a l m b : ℕ) (x y : Result Got Stuck) → Numbering t a l m b x → Numbering t a l m b y → x ≡ y
 number_one t a l m b x y p q = one_field t a _ x y p.2 q.2
 
-pub expect_one : (t : List ℕ) (a b : ℕ) (x y : Step) → Expecting t a b x → Expecting t a b y → x ≡ y
+pub expect_one : (t : List ℕ) (a b : ℕ) (x y : Result ℕ Stuck) → Expecting t a b x → Expecting t a b y → x ≡ y
 expect_one t a b x y p q = one_step t a _ x y p.2 q.2
 
-pub ending_one : (t : List ℕ) (a b : ℕ) (x y : Step) → Ending t a b x → Ending t a b y → x ≡ y
+pub ending_one : (t : List ℕ) (a b : ℕ) (x y : Result ℕ Stuck) → Ending t a b x → Ending t a b y → x ≡ y
 ending_one t a b x y p q = one_step t a _ x y p.2 q.2
 
 -- readings --------------------------------------------------------------------------------------------------------------------------
@@ -51,7 +53,7 @@ pub level_number_one : (l : Level) (x y : ℕ) → LevelNumber l x → LevelNumb
 level_number_one l x y p q = one p q
 
 pub job_of_one : (l : List ℕ) (x y : Job) → JobOf l x → JobOf l y → x ≡ y
-job_of_one l x y p q = one p q
+job_of_one l x y p q = one p.2 q.2
 
 pub no_job_one : (x y : Job) → NoJob x → NoJob y → x ≡ y
 no_job_one x y p q = one p q
@@ -96,3 +98,11 @@ module _ (x y : Page) where
 
   pub with_job_one : (l : Page) (j w d : ℕ) → WithJob l j w d x → WithJob l j w d y → x ≡ y
   with_job_one l j w d p q = one p q
+
+-- What a page shows.
+pub shown_one : (p : Page) (l m : List ℕ) → Shows p l → Shows p m → l ≡ m
+shown_one p l m a b = one a.3 b.3
+
+-- The number of a scenario.
+pub scenario_number_one : (x : Scenario) (m n : ℕ) → ScenarioNumber x m → ScenarioNumber x n → m ≡ n
+scenario_number_one x m n p q = one p q

@@ -7,6 +7,7 @@
 --   worst_is, margin_is          == the worst finish and the margin of a job stand at its place in what the functions return
 --   fit_text_lem                 == the answer to a fit set, by the span, the worst finishes and the margins;  times_text: that to an unfit one, by the times
 -- Assumes nothing.
+use Rattle.std.specs.Prelude.{Err as Refused, Ok as Found, Result}
 use Prim.Native.Nat.{ℕ}
 use mathlib.Core.Path.{◌≡◌, refl, sym, ◌∙◌, ap, subst}
 use mathlib.Core.Bool.{true, false, cond}
@@ -15,11 +16,10 @@ use mathlib.Core.Logic.{⊎_elim, ◌↔◌}
 use native.Mathlib.Omega.{arith}
 use lib.IntN.{ℤ, pos}
 use lib.ListN.{take, get_or}
+use Rattle.model.specs.declared.Refusal.{Refusal}
 use Rattle.model.specs.declared.Set.{Set}
 use Rattle.model.specs.declared.Miss.{Miss}
 use Rattle.model.specs.declared.Judged.{Judged}
-use Rattle.model.specs.declared.Judgement.{Judgement}
-use Rattle.model.specs.declared.Judgement.TheVariants.{Refused, Found}
 use Rattle.model.specs.declared.Verdict.{Verdict}
 use Rattle.model.specs.declared.Verdict.TheVariants.{Fit, Unfit}
 use Rattle.model.specs.declared.Reading.{Reading as ReadingOf}
@@ -71,35 +71,35 @@ refused_not_unfit : (l m : List ℕ) → take 5 (fields (refused_word ∷ l ∷ 
 unfolding fields refused_word unfit_word
 refused_not_unfit l m e = let z : ◌≡◌ {A = ℕ} 82 85 = ap (λ k. get_or k 0 0) e in omega (arith, z)
 
-fit_to : (v : View) (x : Judgement) (c : List ℕ) → take 3 (judged_text v x c) ≡ fit_word → x ≡ Found Fit
+fit_to : (v : View) (x : Result Verdict Refusal) (c : List ℕ) → take 3 (judged_text v x c) ≡ fit_word → x ≡ Found Fit
 fit_to v (Refused r) c e = unfold judged_text refused_text in absurd (refused_not_fit (decimal r.number) (decimal r.place) e)
 fit_to v (Found Fit) c e = refl
 fit_to v (Found (Unfit m)) c e =
     unfold judged_text unfit_text fields unfit_word fit_word in
     let z : ◌≡◌ {A = ℕ} 85 70 = ap (λ k. get_or k 0 0) e in absurd (omega (arith, z))
 
-fit_from : (v : View) (x : Judgement) (c : List ℕ) → x ≡ Found Fit → take 3 (judged_text v x c) ≡ fit_word
+fit_from : (v : View) (x : Result Verdict Refusal) (c : List ℕ) → x ≡ Found Fit → take 3 (judged_text v x c) ≡ fit_word
 unfolding judged_text fit_text fields fit_word
 fit_from v x c e = ap (λ y. take 3 (judged_text v y c)) e
 
-abbrev IsUnfit : Judgement → Type 0
+abbrev IsUnfit : Result Verdict Refusal → Type 0
 IsUnfit x = (m : Miss) × (x ≡ Found (Unfit m))
 
-unfit_to : (v : View) (x : Judgement) (c : List ℕ) → take 5 (judged_text v x c) ≡ unfit_word → IsUnfit x
+unfit_to : (v : View) (x : Result Verdict Refusal) (c : List ℕ) → take 5 (judged_text v x c) ≡ unfit_word → IsUnfit x
 unfit_to v (Refused r) c e = unfold judged_text refused_text in absurd (refused_not_unfit (decimal r.number) (decimal r.place) e)
 unfit_to v (Found Fit) c e =
     unfold judged_text fit_text fields unfit_word fit_word in
     let z : ◌≡◌ {A = ℕ} 70 85 = ap (λ k. get_or k 0 0) e in absurd (omega (arith, z))
 unfit_to v (Found (Unfit m)) c e = (m, refl)
 
-unfit_from : (v : View) (x : Judgement) (c : List ℕ) → IsUnfit x → take 5 (judged_text v x c) ≡ unfit_word
+unfit_from : (v : View) (x : Result Verdict Refusal) (c : List ℕ) → IsUnfit x → take 5 (judged_text v x c) ≡ unfit_word
 unfolding judged_text unfit_text fields unfit_word fit_word
 unfit_from v x c (m, e) = ap (λ y. take 5 (judged_text v y c)) e
 
 -- a word of n bytes that no refusal begins with, and of the others exactly those that are so
-module _ (n : ℕ) (word : List ℕ) (Is : Judgement → Type 0)
+module _ (n : ℕ) (word : List ℕ) (Is : Result Verdict Refusal → Type 0)
     (refuses : (l m : List ℕ) → take n (fields (refused_word ∷ l ∷ m ∷ [])) ≡ word → ⊥)
-    (iff : (v : View) (x : Judgement) (c : List ℕ) → (take n (judged_text v x c) ≡ word) ↔ Is x) where
+    (iff : (v : View) (x : Result Verdict Refusal) (c : List ℕ) → (take n (judged_text v x c) ≡ word) ↔ Is x) where
   says : (t : List ℕ) (x : Page) → Answering t x → (take n (shown x) ≡ word) ↔ ((s : Set) × TextOf s t × Is (judged (view s)).judgement)
   says t x (κs, p, (q, a, e)) =
       let shows = shown_is t q x (κs, p, a) (κs, p, (q, a, e)) in

@@ -9,6 +9,7 @@
 --   printed-..                           == what is printed, by the set read and the library's answers: no-form, refused, unfit, fit
 --   says_fit, says_unfit, says_refused   == what the first word is worth
 -- Assumes nothing.
+use Rattle.std.specs.Prelude.{Err as Refused, Ok as Found}
 use Prim.Native.Nat.{ℕ, ◌≤◌}
 use mathlib.Core.Path.{◌≡◌, refl, ◌∙◌, ap}
 use mathlib.Core.Bool.{true, false}
@@ -22,7 +23,6 @@ use Rattle.model.specs.declared.Refusal.{Refusal}
 use Rattle.model.specs.declared.Miss.{Miss}
 use Rattle.model.specs.declared.Verdict.TheVariants.{Fit, Unfit}
 use Rattle.model.specs.declared.Judged.{Judged}
-use Rattle.model.specs.declared.Judgement.TheVariants.{Refused, Found}
 use Rattle.model.specs.declared.Reading.{Reading as ReadingOf}
 use Rattle.model.specs.Lists.{at, numbers}
 use Rattle.model.specs.Sets.{view}

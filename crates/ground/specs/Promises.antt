@@ -1,31 +1,38 @@
 -- What the public functions promise, as relations between what a call is given and what it answers. Each is the function's own promise, as the
 -- kit reads it off the contract (`Reads.Post`), and no copy of it: of the lifetimes, the arguments, the answer, and the arguments at exit.
 --   RefusalOf s x     == `refusal_of` may answer x for the set s, by its promise;  so for the others:
---   IsHi, Breaks, Places, FaultOf, SpanOf, ColumnsOf, Assesses, Judges, FinishRows, RowsRefusal, WorstFinishes, Margins
+--   IsHi, Untimely, Unbudgeted, Places, SpanOf, ColumnsOf, Assesses, Judges, FinishRows, RowsRefusal, WorstFinishes, Margins
+--   Checks s x, Members s l, FaultOf ok o x   == `check` and `members` of a set that is lent, and `fault_of` of marks and an order that are
+--   Orders k m x      == `order` of the columns k in the mode m: the slice that it answers holds x
+--   ChecksRoom s lo hi x   == `check_room` of the set s, for tables of lengths lo and hi
+--   Told r x, Checked r x   == `from` may tell what a check refuses, r, as the answer x; and `check` the answer r as the check x
 --   Executes s c x    == `execute`, with the running times c
 --   Picks o a d t x   == `pick`, lent an order o, arrivals a and who is done d, at the instant t
 --   Parts l t x       == `part` of the table l from the instant t: the slice that it answers holds x;  PartRefusal: its companion
 --   InRange, Outruns, IsEnabled, Misses, Worse, MarginOf   == those of the measures, from the numbers that each is given
 --   Slots s c l x after   == `slots`, with the running times c, lent room that holds l: it answers x, and the room holds `after`
 --   MakesTables s lo hi x lo_after hi_after   == `make_tables`, lent room that holds lo and hi: it answers x, and the room holds lo_after and hi_after
-use Rattle.std.specs.Prelude.{ℕ, Bool, List, ℤ}
+use Rattle.std.specs.Prelude.{ℕ, Bool, List, ℤ, Option, Result}
 use Rattle.std.specs.Borrow.{GName, Bor, MutBor}
 use contract.Lifetimes.{Lfts}
 use Rattle.model.specs.declared.Level.{Level}
 use Rattle.model.specs.declared.Job.{Job}
 use Rattle.model.specs.declared.Order.{Order}
 use Rattle.model.specs.declared.Set.{Set}
-use Rattle.model.specs.declared.Pick.{Pick}
-use Rattle.model.specs.declared.Switch.{Switch}
 use Rattle.model.specs.declared.Refusal.{Refusal}
 use Rattle.model.specs.declared.Ran.{Ran}
 use Rattle.model.specs.declared.Judged.{Judged}
 use Rattle.model.specs.declared.Assessed.{Assessed}
 use Rattle.columns.specs.declared.Columns.{Columns}
+use Rattle.model.proofs.RefusalFromResultUnitRefusal.from.Reads.{Post as told}
+use Rattle.model.proofs.Refusal.check.Reads.{Post as checked}
 use Rattle.rules.proofs.jobs.is_hi.Reads.{Post as is_hi}
-use Rattle.rules.proofs.jobs.breaks.Reads.{Post as breaks}
+use Rattle.rules.proofs.jobs.untimely.Reads.{Post as untimely}
+use Rattle.rules.proofs.jobs.unbudgeted.Reads.{Post as unbudgeted}
+use Rattle.rules.proofs.jobs.members.Reads.{Post as members}
 use Rattle.rules.proofs.orders.places.Reads.{Post as places}
 use Rattle.rules.proofs.orders.fault_of.Reads.{Post as fault_of}
+use Rattle.checks.proofs.check.Reads.{Post as check}
 use Rattle.checks.proofs.refusal_of.Reads.{Post as refusal_of}
 use Rattle.spans.proofs.span_of.Reads.{Post as span_of}
 use Rattle.measures.proofs.in_range.Reads.{Post as in_range}
@@ -35,12 +42,14 @@ use Rattle.measures.proofs.misses.Reads.{Post as misses}
 use Rattle.measures.proofs.worse.Reads.{Post as worse}
 use Rattle.measures.proofs.margin_of.Reads.{Post as margin_of}
 use Rattle.columns.proofs.columns_of.Reads.{Post as columns_of}
+use Rattle.columns.proofs.Columns.order.Reads.{Post as order}
 use Rattle.verdicts.proofs.assess.Reads.{Post as assess}
 use Rattle.verdicts.proofs.judge.Reads.{Post as judge}
 use Rattle.verdicts.proofs.finish_rows.Reads.{Post as finish_rows}
 use Rattle.verdicts.proofs.rows_refusal.Reads.{Post as rows_refusal}
 use Rattle.verdicts.proofs.worst_finishes.Reads.{Post as worst_finishes}
 use Rattle.verdicts.proofs.margins.Reads.{Post as margins}
+use Rattle.runs.proofs.check_room.Reads.{Post as check_room}
 use Rattle.runs.proofs.execute.Reads.{Post as execute}
 use Rattle.runs.proofs.slots.Reads.{Post as slots}
 use Rattle.picks.proofs.pick.Reads.{Post as pick}
@@ -51,14 +60,20 @@ use Rattle.tables.proofs.make_tables.Reads.{Post as make_tables}
 abbrev pub IsHi : Level → Bool → Type 0
 IsHi l x = is_hi tt (l, tt) x (l, tt)
 
-abbrev pub Breaks : Job → ℕ → Bool → Type 0
-Breaks j n x = breaks tt (j, (n, tt)) x (j, (n, tt))
+abbrev pub Untimely : Job → Bool → Type 0
+Untimely j x = untimely tt (j, tt) x (j, tt)
+
+abbrev pub Unbudgeted : Job → Bool → Type 0
+Unbudgeted j x = unbudgeted tt (j, tt) x (j, tt)
 
 abbrev pub Places : ℕ → ℕ → Type 0
 Places n x = places tt (n, tt) x (n, tt)
 
-abbrev pub FaultOf : List Bool → Order → ℕ → Type 0
-FaultOf ok o x = fault_of tt (ok, (o, tt)) x (ok, (o, tt))
+abbrev pub Told : Result (Unit {0}) Refusal → Refusal → Type 0
+Told r x = told tt (r, tt) x (r, tt)
+
+abbrev pub Checked : Refusal → Result (Unit {0}) Refusal → Type 0
+Checked r x = checked tt (r, tt) x (r, tt)
 
 abbrev pub RefusalOf : Set → Refusal → Type 0
 RefusalOf s x = refusal_of tt (s, tt) x (s, tt)
@@ -99,7 +114,7 @@ Outruns h n lo d x = outruns tt (h, (n, (lo, (d, tt)))) x (h, (n, (lo, (d, tt)))
 abbrev pub IsEnabled : ℕ → ℕ → ℕ → ℕ → Bool → Bool → Type 0
 IsEnabled h l lo hi r x = is_enabled tt (h, (l, (lo, (hi, (r, tt))))) x (h, (l, (lo, (hi, (r, tt)))))
 
-abbrev pub Misses : Bool → ℕ → ℕ → Switch → Bool → Type 0
+abbrev pub Misses : Bool → ℕ → ℕ → Option ℕ → Bool → Type 0
 Misses h d f w x = misses tt (h, (d, (f, (w, tt)))) x (h, (d, (f, (w, tt))))
 
 abbrev pub Worse : Bool → ℕ → ℕ → ℕ → Type 0
@@ -108,19 +123,37 @@ Worse h w f x = worse tt (h, (w, (f, tt))) x (h, (w, (f, tt)))
 abbrev pub MarginOf : ℕ → ℕ → ℤ → Type 0
 MarginOf d w x = margin_of tt (d, (w, tt)) x (d, (w, tt))
 
--- Where a lent slice stands: its address, and the name by which the logic follows what it holds, if it is lent to be written. `slice p l`: the slice
--- at p, lent to be read, which holds l;  `room p l`: lent to be written.
+-- Where what is lent stands: its address, and the name by which the logic follows what it holds, if it is lent to be written. `lent p x`: x at p, lent
+-- to be read;  `slice p l`: the slice at p, which holds l;  `room p l`: lent to be written.
 abbrev pub Spot : Type 0
 Spot = (ℕ × ℕ) × GName
 
+abbrev pub lent : {A : Type 0} → Spot → A → Bor A
+lent p x = record { ref_ptr = p.0; now = x }
+
 abbrev pub slice : {A : Type 0} → Spot → List A → Bor (List A)
-slice p l = record { ref_ptr = p.0; now = l }
+slice p l = lent p l
 
 abbrev pub room : {A : Type 0} → Spot → List A → MutBor (List A)
 room p l = record { ref_ptr = p.0; ghost_name = p.1; now = l }
 
--- Wherever the slices stand, and however long they are lent.
-abbrev pub Picks : List ℕ → List ℕ → List Bool → ℕ → Pick → Type 0
+-- Wherever what is lent stands, and however long it is lent.
+abbrev pub Checks : Set → Result (Unit {0}) Refusal → Type 0
+Checks s x = (κs : Lfts 1) × (p : Spot) × check κs (lent p s, tt) x (lent p s, tt)
+
+abbrev pub Members : Set → List Job → Type 0
+Members s l = (κs : Lfts 1) × (p q : Spot) × members κs (lent p s, tt) (slice q l) (lent p s, tt)
+
+abbrev pub FaultOf : List Bool → Order → Option ℕ → Type 0
+FaultOf ok o x = (κs : Lfts 2) × (p q : Spot) × fault_of κs (lent p ok, (lent q o, tt)) x (lent p ok, (lent q o, tt))
+
+abbrev pub Orders : Columns → Level → List ℕ → Type 0
+Orders k m x = (κs : Lfts 1) × (p q : Spot) × order κs (lent p k, (m, tt)) (slice q x) (lent p k, (m, tt))
+
+abbrev pub ChecksRoom : Set → ℕ → ℕ → Result (Unit {0}) Refusal → Type 0
+ChecksRoom s lo hi x = (κs : Lfts 1) × (p : Spot) × check_room κs (lent p s, (lo, (hi, tt))) x (lent p s, (lo, (hi, tt)))
+
+abbrev pub Picks : List ℕ → List ℕ → List Bool → ℕ → Option ℕ → Type 0
 Picks o a d t x =
     (κs : Lfts 3) × (p q r : Spot) ×
     pick κs (slice p o, (slice q a, (slice r d, (t, tt)))) x (slice p o, (slice q a, (slice r d, (t, tt))))

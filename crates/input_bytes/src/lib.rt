@@ -17,7 +17,8 @@ pub fn read_full<R: Read>(input: &mut R, room: &mut [u8]) -> io::Result<usize>
     ensures end { IfOk result (λ n. n < length room.new → IsAtEnd (R.remaining input.new)) }
     ensures err { OnErr result ((n : ℕ) × (n ≤ length room.new) × Consumes (R.remaining input.old) (R.remaining input.new) (take n room.new)) }
 {
-    let mut done: usize = 0;
+    // Counted by hand, and no `for`: each turn goes on by as many bytes as its read gave, which no iterator knows beforehand.
+    let mut done = 0;
     while done < room.len() {
         let n = input.read(&mut room[done..])?;
         if n == 0 {

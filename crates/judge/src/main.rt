@@ -7,8 +7,5 @@ use std::io;
 fn main(rt: HostRuntime) -> io::Result<()> {
     let mut room = [0u8; 4096];
     let n = read_full(&mut rt.stdin(), &mut room)?;
-    let p = printing::answer(&room[..n]);
-    let bytes = p.bytes;
-    let length = p.length;
-    rt.write_all(&bytes[..length])
+    rt.write_all(printing::answer(&room[..n]).shown())
 }

@@ -7,6 +7,7 @@ pub mod Differences
 pub mod Pigeonhole
 pub mod Members
 pub mod Places
+pub mod Exits
 pub mod Fill
 pub mod Runs
 pub mod Finishes

@@ -6,6 +6,7 @@
 --   mark_is        == the number that the paper writes for its outcome is its finish where it is done at the span, else 0
 --   meets_e, meets_i == the run meets what it requires exactly if each such finish is by the deadline
 -- Assumes nothing.
+use Rattle.std.specs.Prelude.{None as Never, Some as At, Option}
 use Prim.Native.Nat.{ℕ, zero, suc, ◌≤◌, ◌<◌}
 use mathlib.Core.Path.{◌≡◌, refl, sym, ◌∙◌, ap, subst}
 use mathlib.Core.Bool.{Bool, true, false, cond, not, ◌&&◌, ◌||◌}
@@ -15,8 +16,6 @@ use native.Mathlib.Omega.{arith}
 use native.Mathlib.Decide.{le_ind}
 use lib.Dec.{eqb, leb, ltb}
 use borrow.Author.Tests.{eqb-true, eqb-false, eq-eqb, ne_eqb, le-ltb, not-true, not-false}
-use Rattle.model.specs.declared.Switch.{Switch}
-use Rattle.model.specs.declared.Switch.TheVariants.{Never, At}
 use Rattle.model.specs.Lists.{any, mem, least}
 use Rattle.model.specs.Sets.{View, is_hi, members, critical, span}
 use Rattle.model.specs.Runs.{time, mode_at, slot_at, had_at, done_at, finish_of, switch_of, dropped_by, Outcome, finished, dropped, outcome, mark, required_after, outcome_in, switch_in, required, late, missed, meets}
@@ -91,7 +90,7 @@ module _ (v : View) (o : Ordered v.policy) (b : Bounded v) (c : List ℕ) (r : T
       ⊎_elim {C = dropped_by v.policy c j (switch_in v c) ≡ false}
       (λ (e, l). rw e refl)
       (λ (τ, x).
-      let k : critical v.policy j ≡ true = subst (λ (z : Switch). required_after v.policy j z ≡ true) x.0 q in
+      let k : critical v.policy j ≡ true = subst (λ (z : Option ℕ). required_after v.policy j z ≡ true) x.0 q in
       rw x.0 (and_no_l (not (done_at v.policy c τ j) || leb τ (v.policy.arrival j)) (ap not k)))
       switches
 

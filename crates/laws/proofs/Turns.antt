@@ -6,6 +6,7 @@
 --   done-turn              == at J's turn a HI job is done exactly if its own turn is no later
 --   hi-mark                == a HI job is never dropped: what the run marks is its finish
 -- Assumes nothing.
+use Rattle.std.specs.Prelude.{None as Never, Some as At, Option}
 use Prim.Native.Nat.{ℕ, ◌≤◌, ◌<◌}
 use mathlib.Core.Path.{◌≡◌, refl, sym, ◌∙◌, subst}
 use mathlib.Core.Bool.{true, false, cond, not, ◌&&◌, ◌||◌}
@@ -15,8 +16,6 @@ use native.Mathlib.Omega.{arith}
 use lib.Dec.{eqb, leb}
 use borrow.Author.Tests.{eqb-true, eqb-false, eq-eqb, ne_eqb, not-true, le-leb, leb-true}
 use Rattle.model.specs.declared.Scenario.TheVariants.{Hi as HiOf}
-use Rattle.model.specs.declared.Switch.{Switch}
-use Rattle.model.specs.declared.Switch.TheVariants.{Never, At}
 use Rattle.model.specs.Sets.{Policy, View, critical, span}
 use Rattle.model.specs.Runs.{time, had_at, done_at, finish_of, switch_of, dropped_by, outcome, outcome_in, mark, limit}
 use Rattle.model.specs.Scenarios.{places, lo_times, turn, hi_time, times_of}
@@ -155,7 +154,7 @@ done-turn v s J j a k b c =
       Run.had-later p (lo_times v) r (turn v j) σ j (r j b).0 (leb-true (turn v j) σ l),
     )))
 
-not-dropped : (p : Policy) (c : List ℕ) (j : ℕ) (x : Switch) → critical p j ≡ true → dropped_by p c j x ≡ false
+not-dropped : (p : Policy) (c : List ℕ) (j : ℕ) (x : Option ℕ) → critical p j ≡ true → dropped_by p c j x ≡ false
 unfolding dropped_by
 not-dropped p c j Never k = refl
 not-dropped p c j (At t) k = rw k refl

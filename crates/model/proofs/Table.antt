@@ -15,6 +15,7 @@
 --   table              == the clauses: the document's, in its order, then the others
 --   table_holds        == all of them hold;  a & b: the pair of two proofs
 -- Assumes nothing.
+use Rattle.std.specs.Prelude.{None as Never, Some as At, Option, Err as Refused, Ok as Found, Result}
 use Prim.Native.Nat.{ℕ, ◌-◌}
 use mathlib.Core.Path.{◌≡◌, refl}
 use mathlib.Core.Bool.{Bool, true, false, cond}
@@ -26,14 +27,10 @@ use Rattle.model.specs.declared.Level.TheVariants.{Lo, Hi}
 use Rattle.model.specs.declared.Job.{Job}
 use Rattle.model.specs.declared.Set.{Set}
 use Rattle.model.specs.declared.Refusal.{Refusal}
-use Rattle.model.specs.declared.Switch.{Switch}
-use Rattle.model.specs.declared.Switch.TheVariants.{Never, At}
 use Rattle.model.specs.declared.Scenario.{Scenario}
 use Rattle.model.specs.declared.Scenario.TheVariants.{Lo as scenario_lo, Hi as scenario_hi}
 use Rattle.model.specs.declared.Verdict.{Verdict}
 use Rattle.model.specs.declared.Verdict.TheVariants.{Fit, Unfit}
-use Rattle.model.specs.declared.Judgement.{Judgement}
-use Rattle.model.specs.declared.Judgement.TheVariants.{Refused, Found}
 use Rattle.model.specs.Lists.{at, from, numbers, only, first, any, mem, least, total, largest, cut}
 use Rattle.model.specs.Sets.{is_hi, job, blank, set, job_at, order_of, count_of, view, members, critical, span}
 use Rattle.model.specs.Runs.{time, start, overruns, mode_now, ready, pick, slot_now, bump, account, step, state_at, mode_at, slot_at}
@@ -104,14 +101,14 @@ answer n k = record { number = n; place = k }
 scenario : ℕ → Scenario
 scenario J = cond (eqb J 0) scenario_lo (scenario_hi J)
 
-unfit : ℕ → ℕ → ℕ → Judgement
+unfit : ℕ → ℕ → ℕ → Result Verdict Refusal
 unfit J j t = Found (Unfit (record { scenario = scenario J; job = j; finish = t }))
 
 pub data Clause : Type 0 where
   -- checks 2 to 7 of the set give this answer
   checked : Set → Refusal → Clause
   -- the judgement, and the running times beside it
-  judged : Set → Judgement → List ℕ → Clause
+  judged : Set → Result Verdict Refusal → List ℕ → Clause
   -- the worst finishes beside the judgement
   assessed : Set → List ℕ → Clause
   -- the verdict over these scenarios alone
@@ -127,11 +124,11 @@ pub data Clause : Type 0 where
   -- the part of the HI table from an instant, and the companion answer
   part_from : Set → ℕ → List ℕ → Refusal → Clause
   -- the execution of the run with these times: the answer, each job's finish, and the switch
-  executed : Set → List ℕ → Refusal → List ℕ → Switch → Clause
+  executed : Set → List ℕ → Refusal → List ℕ → Option ℕ → Clause
   -- a run may have these times, or may not
   admits : Set → List ℕ → Bool → Clause
   -- the run with these times: each job's outcome, the switch, and the lowest late job whose deadline is required, 0 for none
-  run : Set → List ℕ → List Outcome → Switch → ℕ → Clause
+  run : Set → List ℕ → List Outcome → Option ℕ → ℕ → Clause
   -- who gets each slot of that run
   slots : Set → List ℕ → List ℕ → Clause
   -- what a table lent for those slots holds afterwards, and the answer

@@ -7,15 +7,11 @@
 --   tables_refusal v m n      == the refusal of making both tables into room of lengths m and n
 --   lo_table_in, hi_table_in  == what the two lent tables hold afterwards
 --   slots_refusal v c n       == the refusal of writing the slots of the run with times c into room of length n;  slots_in: what the room holds afterwards
-use Rattle.std.specs.Prelude.{ℕ, suc, Bool, cond, List, [], ◌∷◌, ◌++◌, map, eqb, ℤ, pos, length, drop, replicate}
-use Rattle.model.specs.declared.Pick.{Pick}
-use Rattle.model.specs.declared.Pick.TheVariants.{Job as JobPick, Idle}
+use Rattle.std.specs.Prelude.{ℕ, suc, Bool, cond, List, [], ◌∷◌, ◌++◌, map, eqb, ℤ, pos, length, drop, replicate, None as Never, Some as JobPick, None as Idle, Option, Err as Refused, Ok as Found}
 use Rattle.model.specs.declared.Refusal.{Refusal}
 use Rattle.model.specs.declared.Ran.{Ran}
-use Rattle.model.specs.declared.Switch.TheVariants.{Never}
 use Rattle.model.specs.declared.Judged.{Judged}
 use Rattle.model.specs.declared.Assessed.{Assessed}
-use Rattle.model.specs.declared.Judgement.TheVariants.{Refused, Found}
 use Rattle.model.specs.Lists.{at, numbers}
 use Rattle.model.specs.Sets.{View, span}
 use Rattle.model.specs.Runs.{pick, slot_at, outcome_in, mark, switch_in}
@@ -24,11 +20,11 @@ use Rattle.model.specs.Tables.{table_of, lo_table, hi_table}
 use Rattle.model.specs.Refusals.{is_good, first_of, refusal, check_run, check_room}
 
 -- "0 for idle, else a job number"
-unfoldable pub picked : ℕ → Pick
+unfoldable pub picked : ℕ → Option ℕ
 picked j = cond (eqb j 0) Idle (JobPick j)
 
 -- The first job of the order that has arrived and is not done. An entry without a place in both lists names no job.
-unfoldable pub lent_pick : List ℕ → List ℕ → List Bool → ℕ → Pick
+unfoldable pub lent_pick : List ℕ → List ℕ → List Bool → ℕ → Option ℕ
 lent_pick order arrivals done t = picked (pick order (λ j. at arrivals j (suc t)) done t)
 
 -- what the answer is where the refusal is not good, and where it is

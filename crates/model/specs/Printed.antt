@@ -4,16 +4,15 @@
 --   judged_text v r   == the answer to the set of view v, judged r
 --   printed q         == what the program prints for a text with reading q
 --   Prints t l        == l is what the program prints for the text t
-use Rattle.std.specs.Prelude.{ℕ, suc, ◌≡◌, ℤ, pos, negsuc, List, [], ◌∷◌, ◌++◌, map}
+use Rattle.std.specs.Prelude.{ℕ, suc, ◌≡◌, ℤ, pos, negsuc, List, [], ◌∷◌, ◌++◌, map, Err as Refused, Ok as Found, Result}
 use mathlib.Core.List.{flat_map}
+use Rattle.model.specs.declared.Verdict.{Verdict}
 use Rattle.model.specs.declared.Refusal.{Refusal}
 use Rattle.model.specs.declared.Reading.{Reading}
 use Rattle.model.specs.declared.Scenario.{Scenario}
 use Rattle.model.specs.declared.Scenario.TheVariants.{Lo, Hi}
 use Rattle.model.specs.declared.Miss.{Miss}
 use Rattle.model.specs.declared.Verdict.TheVariants.{Fit, Unfit}
-use Rattle.model.specs.declared.Judgement.{Judgement}
-use Rattle.model.specs.declared.Judgement.TheVariants.{Refused, Found}
 use Rattle.model.specs.Lists.{at}
 use Rattle.model.specs.Sets.{View, view, members, span}
 use Rattle.model.specs.Scenarios.{worst, margin}
@@ -55,7 +54,7 @@ unfit_text v m c =
     fields (unfit_word ∷ decimal (scenario_number m.scenario) ∷ decimal m.job ∷ decimal m.finish ∷ [])
     ++ line (map (λ j. at c j 0) (members v.policy))
 
-unfoldable pub judged_text : View → Judgement → List ℕ → List ℕ
+unfoldable pub judged_text : View → Result Verdict Refusal → List ℕ → List ℕ
 judged_text v (Refused r) c = refused_text r
 judged_text v (Found Fit) c = fit_text v
 judged_text v (Found (Unfit m)) c = unfit_text v m c

@@ -1,12 +1,13 @@
 -- Document 01, "Refusal numbers". "The first that applies, in this order, is given. Each answer is the number and one place value."
 --   good              == no refusal
+--   told r, checked r == what a check refuses, as a refusal, which is good where it refuses nothing; and back
 --   applies n k b     == refusal n with place k, where b says that it applies
 --   placed n k        == refusal n with place k, a number from 1; k = 0 says that it does not apply
 --   first_of l        == the first refusal of l that applies
 --   lowest n v bad    == refusal n at the lowest job that is bad
 --   fault ok l        == the first position of l, from 1, whose entry is not ok or repeats; 0 where there is none
 --   checks v          == checks 2 to 7;  refusal v: the first that applies
-use Rattle.std.specs.Prelude.{ℕ, suc, Bool, cond, not, ◌&&◌, ◌||◌, List, [], ◌∷◌, eqb, leb, ltb, length}
+use Rattle.std.specs.Prelude.{ℕ, suc, Bool, cond, not, ◌&&◌, ◌||◌, List, [], ◌∷◌, eqb, leb, ltb, length, Result, Ok, Err}
 use Rattle.model.specs.declared.Level.TheVariants.{Lo, Hi}
 use Rattle.model.specs.declared.Refusal.{Refusal}
 use Rattle.model.specs.Lists.{first, mem}
@@ -19,6 +20,14 @@ good = record { number = 0; place = 0 }
 
 unfoldable pub is_good : Refusal → Bool
 is_good r = eqb r.number 0
+
+-- A check refuses or passes.
+unfoldable pub told : Result (Unit {0}) Refusal → Refusal
+told (Ok u) = good
+told (Err r) = r
+
+unfoldable pub checked : Refusal → Result (Unit {0}) Refusal
+checked r = cond (is_good r) (Ok tt) (Err r)
 
 unfoldable pub applies : ℕ → ℕ → Bool → Refusal
 applies n k b = cond b (record { number = n; place = k }) good

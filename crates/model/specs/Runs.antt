@@ -9,12 +9,10 @@
 --   switch_of p c n   == the switch, looking at the instants before n
 --   required, late, meets v c      == which deadlines the run requires, and whether it meets them
 --   limit v j, in_range, is_run v c  == which times a run may have
-use Rattle.std.specs.Prelude.{ℕ, zero, suc, ◌-◌, Bool, true, false, cond, not, ◌&&◌, ◌||◌, List, map, eqb, leb, ltb, replicate, set}
+use Rattle.std.specs.Prelude.{ℕ, zero, suc, ◌-◌, Bool, true, false, cond, not, ◌&&◌, ◌||◌, List, map, eqb, leb, ltb, replicate, set, None as Never, Some as At, Option}
 use Rattle.model.specs.declared.Level.{Level}
 use Rattle.model.specs.declared.Level.TheVariants.{Lo, Hi}
 use Rattle.model.specs.declared.State.{State}
-use Rattle.model.specs.declared.Switch.{Switch}
-use Rattle.model.specs.declared.Switch.TheVariants.{Never, At}
 use Rattle.model.specs.Lists.{at, numbers, first, any, least}
 use Rattle.model.specs.Sets.{Policy, View, is_hi, members, critical, span}
 
@@ -88,11 +86,11 @@ done_at p c t j = at (state_at p c t).done j true
 unfoldable pub finish_of : Policy → List ℕ → ℕ → ℕ → ℕ
 finish_of p c n j = least (λ t. leb (p.arrival j) t && done_at p c t j) (suc n)
 
-unfoldable pub switch_of : Policy → List ℕ → ℕ → Switch
+unfoldable pub switch_of : Policy → List ℕ → ℕ → Option ℕ
 switch_of p c n = let t = least (λ t. is_hi (mode_at p c t)) n in cond (eqb t n) Never (At t)
 
 -- "In HI mode every unfinished LO job, also one that arrives later, is dropped and never runs."
-unfoldable pub dropped_by : Policy → List ℕ → ℕ → Switch → Bool
+unfoldable pub dropped_by : Policy → List ℕ → ℕ → Option ℕ → Bool
 dropped_by p c j Never = false
 dropped_by p c j (At t) = not (critical p j) && (not (done_at p c t j) || leb t (p.arrival j))
 
@@ -109,7 +107,7 @@ mark (finished t) = t
 mark dropped = 0
 
 -- "A run without a switch requires every deadline; a run with one requires those of the HI jobs only."
-unfoldable pub required_after : Policy → ℕ → Switch → Bool
+unfoldable pub required_after : Policy → ℕ → Option ℕ → Bool
 required_after p j Never = true
 required_after p j (At t) = critical p j
 
@@ -118,7 +116,7 @@ module _ (v : View) (c : List ℕ) where
   unfoldable pub outcome_in : ℕ → Outcome
   outcome_in j = outcome v.policy c (span v) j
 
-  unfoldable pub switch_in : Switch
+  unfoldable pub switch_in : Option ℕ
   switch_in = switch_of v.policy c (span v)
 
   unfoldable pub required : ℕ → Bool

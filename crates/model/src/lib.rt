@@ -1,8 +1,12 @@
 // The types of document 01. What they mean is in specs/, file by file in the document's order.
 #![tactic(auto)]
 
+ghost use Rattle.std.specs.Prelude.{◌≡◌};
+ghost use Rattle.model.specs.Refusals.{told, checked};
+ghost use Rattle.model.specs.Printed.{scenario_number};
+
 // A job's level of criticality. The mode of a run is one of the same two.
-#[derive(Clone, Copy)]
+#[derive(Clone, Copy, PartialEq, Eq)]
 pub enum Level {
     Lo,
     Hi,
@@ -18,7 +22,8 @@ pub struct Job {
     pub hi: u16,
 }
 
-// Job numbers, highest priority first, with room for 64. Room beyond the count is no part of the order.
+// Job numbers, highest priority first, with room for 64. Room beyond the count is no part of the order. (Room and a count, here and in a set: document 01
+// names the form, and `room_is_no_part` is stated over it.)
 #[derive(Clone, Copy)]
 pub struct Order {
     pub entries: [u16; 64],
@@ -34,11 +39,41 @@ pub struct Set {
     pub hi: Order,
 }
 
-// "Each answer is the number and one place value." Number 0 with place 0 is good.
+// "Each answer is the number and one place value." Number 0 with place 0 is good. (Document 01 names the form, and `refusal` and the theorems over it are
+// stated by these numbers; code that may be refused answers a Result, and `told` is what From makes of it.)
 #[derive(Clone, Copy)]
 pub struct Refusal {
     pub number: u8,
     pub place: u64,
+}
+
+impl Refusal {
+    // What this answer says of a check: that it refuses, or, where it is good, that it lets pass.
+    #[tactic(auto, unfolding(crate::specs::Refusals::checked, crate::specs::Refusals::is_good))]
+    pub fn check(self) -> Result<(), Refusal>
+        ensures { result ≡ checked self }
+    {
+        if self.number == GOOD {
+            Ok(())
+        } else {
+            Err(self)
+        }
+    }
+}
+
+// What a check refuses, told as an answer: good where it refuses nothing.
+impl From<Result<(), Refusal>> for Refusal {
+    ghost from_gives = { λ r x. x ≡ told r };
+
+    fn from(r: Result<(), Refusal>) -> Refusal {
+        match r {
+            Ok(()) => Refusal {
+                number: GOOD,
+                place: 0,
+            },
+            Err(refusal) => refusal,
+        }
+    }
 }
 
 pub const GOOD: u8 = 0;
@@ -63,14 +98,16 @@ pub const RUN: u8 = 9;
 
 pub const INSTANT: u8 = 10;
 
-// What the reader answers for a text: its set, all 0 where it is refused.
+// What the reader answers for a text: its set, all 0 where it is refused. (The refusal stands beside the set, as beside a run's finishes below, since
+// document 01 says that what is refused comes back all 0; `Reads` and `ran` are stated over that.)
 #[derive(Clone, Copy)]
 pub struct Reading {
     pub refusal: Refusal,
     pub set: Set,
 }
 
-// A run between two slots: the mode, and for each job the slots that it has had and whether it is done.
+// A run between two slots: the mode, and for each job the slots that it has had and whether it is done. (Two lists, and not one of pairs: `pick` is lent
+// who is done, and the definitions step both as they stand.)
 #[derive(Clone, Copy)]
 pub struct State {
     pub mode: Level,
@@ -78,33 +115,31 @@ pub struct State {
     pub done: [bool; 64],
 }
 
-// Who gets a slot: a job, or nobody.
-#[derive(Clone, Copy)]
-pub enum Pick {
-    Job(u16),
-    Idle,
-}
-
-// The instant of a run's switch, if there is one.
-#[derive(Clone, Copy)]
-pub enum Switch {
-    Never,
-    At(u16),
-}
-
-// The answer of one given run: each job's finish, 0 for a dropped one, and the switch.
+// The answer of one given run: each job's finish, 0 for a dropped one, and the instant of the switch, if there is one.
 #[derive(Clone, Copy)]
 pub struct Ran {
     pub refusal: Refusal,
     pub finishes: [u16; 64],
-    pub switch: Switch,
+    pub switch: Option<u16>,
 }
 
-// A scenario of the published test: LO, or HI of a job.
+// A scenario of the published test: LO, or HI of a job. (Document 01 names this enum, and the verdict's below.)
 #[derive(Clone, Copy)]
 pub enum Scenario {
     Lo,
     Hi(u16),
+}
+
+// The number by which a scenario is told: 0 for LO, else its job.
+impl From<Scenario> for u16 {
+    ghost from_gives = { λ x n. n ≡ scenario_number x };
+
+    fn from(x: Scenario) -> u16 {
+        match x {
+            Scenario::Lo => 0,
+            Scenario::Hi(job) => job,
+        }
+    }
 }
 
 // A required deadline that a scenario misses.
@@ -121,16 +156,10 @@ pub enum Verdict {
     Unfit(Miss),
 }
 
-#[derive(Clone, Copy)]
-pub enum Judgement {
-    Refused(Refusal),
-    Found(Verdict),
-}
-
-// A judgement, and beside it the running times of the failing scenario, all 0 where there is none.
+// A judgement, which is the verdict found or the refusal, and beside it the running times of the failing scenario, all 0 where there is none.
 #[derive(Clone, Copy)]
 pub struct Judged {
-    pub judgement: Judgement,
+    pub judgement: Result<Verdict, Refusal>,
     pub times: [u16; 64],
 }
 

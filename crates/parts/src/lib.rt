@@ -5,30 +5,28 @@ ghost use Rattle.std.specs.Prelude.{◌≡◌};
 ghost use Rattle.model.specs.Tables.{part as part_of};
 ghost use Rattle.model.specs.Refusals.{check_instant};
 
-use model::{GOOD, INSTANT, Refusal};
+use model::{INSTANT, Refusal};
 
 // An instant past the end gives the empty part.
+#[tactic(auto, unfolding(model::specs::Tables::part))]
 pub fn part(table: &[u16], t: usize) -> &[u16]
     ensures { result.now ≡ part_of table.now t }
 {
-    if table.len() < t {
-        return &table[table.len()..];
-    }
-    &table[t..]
+    table.get(t..).unwrap_or(&[])
 }
 
 // Refusal 10 where the instant is past the table's end, and good otherwise.
+#[tactic(auto, unfolding(model::specs::Refusals::check_instant, model::specs::Refusals::applies, model::specs::Refusals::told))]
 pub fn part_refusal(table: &[u16], t: usize) -> Refusal
     ensures { result ≡ check_instant table.now t }
 {
-    if table.len() < t {
-        return Refusal {
+    let found = if table.len() < t {
+        Err(Refusal {
             number: INSTANT,
             place: t as u64,
-        };
-    }
-    Refusal {
-        number: GOOD,
-        place: 0,
-    }
+        })
+    } else {
+        Ok(())
+    };
+    Refusal::from(found)
 }

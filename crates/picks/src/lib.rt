@@ -6,39 +6,25 @@ ghost use Rattle.model.specs.Lists.{at};
 ghost use Rattle.model.specs.Runs.{ready};
 ghost use Rattle.model.specs.Answers.{lent_pick};
 
-use model::Pick;
-
 // Whether a number names a job that has arrived by an instant and is not done.
+#[tactic(auto, unfolding(model::specs::Runs::ready, model::specs::Lists::at))]
 fn is_ready(arrivals: &[u16], done: &[bool], t: u16, j: u16) -> bool
     ensures { result ≡ ready (λ i. at arrivals.now i (suc t)) done.now t j }
 {
-    let k = j as usize;
-    if k == 0 {
-        return false;
-    }
-    if arrivals.len() < k {
-        return false;
-    }
-    if done.len() < k {
-        return false;
-    }
-    if t < arrivals[k - 1] {
-        return false;
-    }
-    !done[k - 1]
+    let place = usize::from(j);
+    j != 0
+        && place <= arrivals.len()
+        && place <= done.len()
+        && arrivals[place - 1] <= t
+        && !done[place - 1]
 }
 
 // The first job of an order that has arrived by an instant and is not done, or idle. An entry that names no job is passed over.
-pub fn pick(order: &[u16], arrivals: &[u16], done: &[bool], t: u16) -> Pick
+pub fn pick(order: &[u16], arrivals: &[u16], done: &[bool], t: u16) -> Option<u16>
     ensures { result ≡ lent_pick order.now arrivals.now done.now t }
 {
-    let mut i: usize = 0;
-    while i < order.len() {
-        let j = order[i];
-        if is_ready(arrivals, done, t, j) {
-            return Pick::Job(j);
-        }
-        i += 1;
-    }
-    Pick::Idle
+    order
+        .iter()
+        .copied()
+        .find(|&j| is_ready(arrivals, done, t, j))
 }

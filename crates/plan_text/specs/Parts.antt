@@ -1,58 +1,55 @@
--- What is read of the parts of a text, from a cursor on, and what is answered.
---   limits level n             == the largest numbers of a line of n numbers whose level stands at place `level`;  limit_at: at place i
+-- What a reader reads of the parts of a text, from where it stands.
+--   limits level n             == the largest numbers of a line of n numbers whose level stands at place `level`, if it has one;  limit_at: at place i
 --   behind_at n i              == the byte behind the number at place i of a line of n
---   Room d n v                 == an array of 64 places that holds d from place n on
---   RowRead t at n part r      == the row r has the n numbers that the scan of `part` reads, and nothing in the room
---   JobsRead t at n r          == the section r has the n jobs that the scan reads, and nothing in the room
---   last_order, both_orders    == the form of what is left behind the LO order, and behind the jobs
---   answer_at t at f           == the reader's answer to the text t, where from the cursor on it is to be of the form f
-use Rattle.std.specs.Prelude.{ℕ, suc, zero, ◌+◌, ◌-◌, ◌≤◌, ◌≡◌, cond, List, [], ◌∷◌, eqb, ltb, length, take, drop, replicate}
-use Rattle.model.specs.declared.Job.{Job}
-use Rattle.model.specs.declared.Reading.{Reading}
-use Rattle.model.specs.Sets.{blank, set}
-use Rattle.model.specs.Texts.{ones}
-use Rattle.forms.specs.Forms.{Form, scan, space, lf, jobs, order, answered}
-use Rattle.forms.specs.Forms.Form.{done}
-use Rattle.fields.specs.Cursors.{onward, stands}
-use Rattle.plan_text.specs.declared.lines.Row.{Row}
-use Rattle.plan_text.specs.declared.sections.Section.{Section}
+--   order_with l               == the order of the entries l, and 0 in its room
+--   led t p f a                == the scan of what is left of the text t behind a part, from the place p on, by the form that f makes of what was read; or where it is stuck
+--   Takes r part s seen a      == from where the reader r stands, a is what the scan of `part` reads, whatever form follows it, and s stands behind it;
+--                                 `seen` says what is read, of what the answer holds
+--   Ends r a                   == a tells whether the reader r stands at the text's end
+--   scanned t a, PlanRead t a  == what the scan of a plan text gives, told as an answer; a tells what it gives for the text t
+use Rattle.std.specs.Prelude.{ℕ, suc, zero, ◌+◌, ◌-◌, ◌<◌, ◌≤◌, ◌≡◌, cond, List, ◌∷◌, [], ◌++◌, eqb, ltb, length, drop, replicate, Option, Some, None, Result, Ok, Err, IfErr, MatchResult}
+use Rattle.model.specs.declared.Order.{Order}
+use Rattle.model.specs.declared.Set.{Set}
+use Rattle.forms.specs.Forms.{Form, Scanned, scan, plan, space, lf}
+use Rattle.forms.specs.Forms.Scanned.{read, stuck}
+use Rattle.fields.specs.declared.Stuck.{Stuck}
+use Rattle.plan_text.specs.declared.reader.Reader.{Reader}
 
-unfoldable pub limit_at : ℕ → ℕ → ℕ
-limit_at level i = cond (eqb i level) 1 65535
+unfoldable pub limit_at : Option ℕ → ℕ → ℕ
+limit_at None i = 65535
+limit_at (Some level) i = cond (eqb level i) 1 65535
 
 -- those of n places from place i on
-unfoldable pub limits_from : ℕ → ℕ → ℕ → List ℕ
+unfoldable pub limits_from : Option ℕ → ℕ → ℕ → List ℕ
 limits_from level i zero = []
 limits_from level i (suc n) = limit_at level i ∷ limits_from level (i + 1) n
 
-unfoldable pub limits : ℕ → ℕ → List ℕ
+unfoldable pub limits : Option ℕ → ℕ → List ℕ
 limits level n = limits_from level 0 n
 
 unfoldable pub behind_at : ℕ → ℕ → ℕ
 behind_at n i = cond (ltb (i + 1) n) space lf
 
 -- "Room beyond a count is no part of the set: .. the reader leaves 0 there (level LO)."
-pub record Room {A : Type 0} (d : A) (n : ℕ) (v : List A) : Type 0 where
-  pub size : length v ≡ 64
-  pub rest : drop n v ≡ replicate (64 - n) d
+unfoldable pub order_with : List ℕ → Order
+order_with l = record { entries = l ++ replicate (64 - length l) 0; count = length l }
 
-pub record RowRead (t : List ℕ) (at n : ℕ) (part : (List ℕ → Form) → Form) (r : Row) : Type 0 where
-  pub goes : (k : List ℕ → Form) → scan (part k) (drop at t) ≡ onward t (k (take n r.values)) r.step
-  pub within : stands r.step ≤ length t
-  pub room : Room 0 n r.values
+unfoldable pub led : {A : Type 0} → List ℕ → ℕ → (A → Form) → Result A Stuck → Scanned
+led t p f (Ok x) = scan (f x) (drop p t)
+led t p f (Err e) = stuck (drop e.at t)
 
-pub record JobsRead (t : List ℕ) (at n : ℕ) (r : Section) : Type 0 where
-  pub goes : (k : List Job → Form) → scan (jobs n [] k) (drop at t) ≡ onward t (k (take n r.jobs)) r.step
-  pub within : stands r.step ≤ length t
-  pub room : Room blank n r.jobs
-  pub hi : r.hi ≡ ones r.jobs
+pub record Takes {A V : Type 0} (r : Reader) (part : (A → Form) → Form) (s : Reader) (seen : V → A) (a : Result V Stuck) : Type 0 where
+  pub goes : (f : A → Form) → scan (part f) (drop r.at r.text.now) ≡ led r.text.now s.at (λ v. f (seen v)) a
+  pub within : IfErr a (λ e. e.at ≤ length r.text.now)
+  pub same : s.text ≡ r.text
 
--- the orders behind the jobs js, n of them, and the HI order of m entries behind the LO order lo too
-unfoldable pub last_order : List Job → List ℕ → ℕ → Form
-last_order js lo m = order m (λ hi. done (set js lo hi))
+abbrev pub Ends : Reader → Result (Unit {0}) Stuck → Type 0
+Ends r a = MatchResult a (λ _. length r.text.now ≤ r.at) (λ e. (e.at ≡ r.at) × (r.at < length r.text.now))
 
-unfoldable pub both_orders : List Job → ℕ → Form
-both_orders js n = order n (λ lo. last_order js lo (ones js))
+unfoldable pub scanned : List ℕ → Result Set Stuck → Scanned
+scanned t (Ok s) = read s
+scanned t (Err e) = stuck (drop e.at t)
 
-unfoldable pub answer_at : List ℕ → ℕ → Form → Reading
-answer_at t at f = answered t (scan f (drop at t))
+pub record PlanRead (t : List ℕ) (a : Result Set Stuck) : Type 0 where
+  pub goes : scan plan t ≡ scanned t a
+  pub within : IfErr a (λ e. e.at ≤ length t)

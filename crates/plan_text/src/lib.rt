@@ -1,24 +1,50 @@
 // The reader of the plan text (document 01, "Plan text and program").
 #![tactic(auto)]
 
-ghost use Rattle.model.specs.Texts.{Reads};
+ghost use Rattle.std.specs.Prelude.{◌≡◌};
+ghost use Rattle.model.specs.Texts.{ones, Reads};
+ghost use Rattle.plan_text.specs.Parts.{PlanRead};
 
-mod answers;
-mod lines;
-mod sections;
+mod reader;
 
-use answers::with_count;
-use fields::{Field, number};
-use model::Reading;
-use readings::refused;
+use fields::Stuck;
+use model::{GOOD, Job, Reading, Set};
+use reader::Reader;
+use readings::{answer, level_number, no_job, refused};
+
+// How many of the jobs are HI jobs.
+#[tactic(auto, using(crate::proofs::Jobs::ones_sum))]
+fn hi_jobs(jobs: &[Job]) -> usize
+    ensures { result ≡ ones jobs.now }
+{
+    jobs.iter().map(|job| level_number(job.level)).sum()
+}
+
+// The set that the whole text says.
+fn plan(text: &[u8]) -> Result<Set, Stuck>
+    ensures { PlanRead text.now result }
+{
+    let mut reader = Reader { text, at: 0 };
+    let count = usize::from(reader.number(1, 64, b'\n')?);
+    let mut jobs = [no_job(); 64];
+    reader.jobs(&mut jobs[..count])?;
+    let lo = reader.order(count)?;
+    let hi = reader.order(hi_jobs(&jobs[..count]))?;
+    reader.end()?;
+    Ok(Set {
+        jobs,
+        count,
+        lo,
+        hi,
+    })
+}
 
 // The set of the text; or, where the text is not of the form, refusal 1 with the length of the longest prefix that some well-formed text also begins with.
 pub fn read(text: &[u8]) -> Reading
     ensures { Reads text.now result }
 {
-    let first = number(text, 0, 1, 64, b'\n');
-    match first {
-        Field::Number(g) => with_count(text, g.at, g.value as usize),
-        Field::Stuck(p) => refused(p),
+    match plan(text) {
+        Ok(set) => answer(GOOD, 0, set),
+        Err(stuck) => refused(stuck.at),
     }
 }

@@ -1,17 +1,22 @@
--- Laws on the loops over the jobs of a set that passes the checks.
---   good-count         == it has 1 to 64 jobs;  good-members: they are 1 to N
+-- Laws on the jobs of a set that passes the checks, and on the chains over them.
+--   good-count              == it has 1 to 64 jobs;  good-members: they are 1 to N
 --   worst-at, deadline-at   == what the arrays hold for a job
---   jobs-start, jobs-turn, jobs-end     == the loop over the lines of the jobs
---   times-start, times-turn, times-end  == the loop over the running times
+--   lines_put, jobs_put     == what the chain over the jobs puts: their lines
+--   rest_put, times_put     == what the chain over the running times puts: a line;  times_are: the times of the jobs, in job order
 -- Assumes nothing.
-use Prim.Native.Nat.{ℕ, ◌+◌, ◌-◌, ◌≤◌, ◌<◌}
-use mathlib.Core.Path.{◌≡◌, sym, ◌∙◌, ap}
+use Rattle.std.specs.Prelude.{fold}
+use Rattle.std.specs.List.{zip, enumerate_from}
+use Rattle.std.proofs.lemmas.List.{get_or-take}
+use Prim.Native.Nat.{ℕ, zero, suc, ◌+◌, ◌≤◌, ◌<◌}
+use mathlib.Core.Path.{◌≡◌, refl, sym, ◌∙◌, ap}
 use mathlib.Core.Bool.{true, cond}
 use mathlib.Core.List.{List, [], ◌∷◌, map, flat_map}
 use native.Mathlib.Omega.{arith}
 use native.Mathlib.Numerals.{add-one}
-use lib.ListN.{get_or}
+use lib.ListN.{length, get_or, take, drop}
+use lib.Seq.{drop-cons}
 use borrow.Author.Tests.{le-leb}
+use Rattle.model.specs.declared.Job.{Job}
 use Rattle.model.specs.declared.Set.{Set}
 use Rattle.model.specs.Lists.{at, from, numbers}
 use Rattle.model.specs.Sets.{View, view, members, blank}
@@ -21,15 +26,15 @@ use Rattle.model.specs.Answers.{unless, worsts}
 use Rattle.model.specs.Texts.{decimal, line}
 use Rattle.laws.proofs.Bools.{and_i}
 use Rattle.laws.proofs.Sums.{get_or-from}
-use Rattle.laws.proofs.Members.{job_at_lem, members_are, from_step, from_end}
+use Rattle.laws.proofs.Members.{job_at_lem, members_are}
 use Rattle.laws.proofs.Places.{at_suc}
 use Rattle.laws.proofs.Checks.{checks_pass, counts_right}
 use Rattle.pages.specs.declared.Page.{Page}
 use Rattle.pages.specs.Pages.{put}
 use Rattle.pages.proofs.Puts.{put-append}
 use Rattle.pages.specs.Lines.{rest, job_line}
-use Rattle.printing.specs.Lines.{job_lines, times_left}
-use Rattle.pages.proofs.LineLaws.{put_first, put_next}
+use Rattle.printing.specs.Lines.{job_lines}
+use Rattle.pages.proofs.LineLaws.{put_first}
 
 place_at : (v : View) (f : ℕ → ℕ) (i : ℕ) → i < 64 → v.policy.part (1 + i) ≡ true → get_or (places v f) i 0 ≡ f (i + 1)
 unfolding places numbers
@@ -55,54 +60,61 @@ pub deadline-at : (s : Set) (i : ℕ) → i < s.count → (get_or s.jobs i blank
 unfolding view
 deadline-at s i h = ap (λ j. j.deadline) (sym (job_at_lem s i h))
 
--- the lines of the jobs: z is the page that is to be ------------------------------------------------------------------------------------
+-- the lines of the jobs ------------------------------------------------------------------------------------------------------------------
 
-abbrev pub JobsLeft : Set → Page → Page → ℕ → Type 0
-JobsLeft s z q i = put q (job_lines (view s) (from (i + 1) (s.count - i))) ≡ z
+-- what the chain over the jobs puts at a turn: the line of the job at place i, with its worst finish w
+abbrev pub one_line : Page → ℕ × (Job × ℕ) → Page
+one_line p (i, (j, w)) = put p (job_line (i + 1) w j.deadline)
 
-pub jobs-start : (s : Set) → is_good (refusal (view s)) ≡ true → (p : Page) → JobsLeft s (put p (job_lines (view s) (members (view s).policy))) p 0
-jobs-start s g p =
-    let e : s.count ≡ s.count - 0 = omega arith in ap (λ l. put p (job_lines (view s) l)) (sym (good-members s g ∙ ap (from 1) e))
+pub lines_put : (f g : ℕ → ℕ) (i : ℕ) (l : List Job) (c : List ℕ) (p : Page) → length l ≤ length c
+    → ((k j : ℕ) → k < length l → j ≡ k + suc i → (get_or c k 0 ≡ f j) × ((get_or l k blank).deadline ≡ g j))
+    → fold one_line p (enumerate_from i (zip l c)) ≡ put p (flat_map (λ j. job_line j (f j) (g j)) (from (suc i) (length l)))
+unfolding from flat_map put
+lines_put f g i [] c p h e = refl
+lines_put f g i (x ∷ l) [] p h e = absurd (omega arith)
+lines_put f g i (x ∷ l) (w ∷ c) p h e =
+    let a = e 0 (suc i) (omega arith) (omega arith) in
+    let b : w ≡ f (suc i) = a.0 in
+    let d : x.deadline ≡ g (suc i) = a.1 in
+    lines_put f g (i + 1) l c (one_line p (i, (x, w))) (omega arith) (λ k j m n. e (suc k) j (omega arith) (omega arith))
+    ∙ put-append p (job_line (i + 1) w x.deadline) (flat_map (λ j. job_line j (f j) (g j)) (from (suc (i + 1)) (length l)))
+    ∙ rw (add-one i, b, d) refl
 
-module _ (s : Set) (z q r : Page) (i : ℕ) where
-  pub jobs-turn : i < s.count → JobsLeft s z q i → (w d : ℕ) → w ≡ worst (view s) (i + 1) → d ≡ (view s).deadline (i + 1)
-      → r ≡ put q (job_line (i + 1) w d) → JobsLeft s z r (i + 1)
-  unfolding job_lines flat_map
-  jobs-turn n h w d e f k =
-      let t = from (i + 1 + 1) (s.count - (i + 1)) in
-      ap (λ x. put x (job_lines (view s) t)) (k ∙ cc)
-      ∙ put-append q (job_line (i + 1) (worst (view s) (i + 1)) ((view s).deadline (i + 1))) (job_lines (view s) t)
-      ∙ ap (λ l. put q (job_lines (view s) l)) (sym (from_step i s.count n))
-      ∙ h
-
-pub jobs-end : (s : Set) (z q : Page) (i : ℕ) → s.count ≤ i → JobsLeft s z q i → q ≡ z
-unfolding job_lines flat_map put
-jobs-end s z q i n h = rw (from_end i s.count n) at h
+pub jobs_put : (s : Set) → is_good (refusal (view s)) ≡ true → length (take s.count s.jobs) ≡ s.count → (w : List ℕ) → w ≡ worsts (view s) → length w ≡ 64
+    → (p : Page) → fold one_line p (enumerate_from 0 (zip (take s.count s.jobs) w)) ≡ put p (job_lines (view s) (members (view s).policy))
+unfolding job_lines
+jobs_put s g a w e b p =
+    let n = good-count s g in
+    lines_put (worst (view s)) (view s).deadline 0 (take s.count s.jobs) w p (omega arith)
+    (λ k j h q.
+    let r : j ≡ k + 1 = omega arith in
+    let t : k < s.count = omega arith in (
+      ap (λ l. get_or l k 0) e ∙ worst-at s g k t ∙ ap (worst (view s)) (sym r),
+      ap (λ (x : Job). x.deadline) (get_or-take s.count s.jobs k blank t) ∙ deadline-at s k t ∙ ap (view s).deadline (sym r),
+    ))
+    ∙ ap (λ n. put p (job_lines (view s) (from 1 n))) a
+    ∙ ap (λ l. put p (job_lines (view s) l)) (sym (good-members s g))
 
 -- the running times ----------------------------------------------------------------------------------------------------------------------
 
-module _ (c : List ℕ) (n : ℕ) where
-  abbrev pub TimesLeft : Page → Page → ℕ → Type 0
-  TimesLeft z q i = put q (times_left c i n) ≡ z
+-- what the chain over the running times puts, and the LF behind it
+pub rest_put : (p : Page) (l : List ℕ) → put (fold (λ q t. put q (32 ∷ decimal t)) p l) (10 ∷ []) ≡ put p (rest (map decimal l))
+unfolding rest
+rest_put p [] = refl
+rest_put p (x ∷ l) = rest_put (put p (32 ∷ decimal x)) l ∙ put-append p (32 ∷ decimal x) (rest (map decimal l))
 
-  first_of : 1 ≤ n → from 1 n ≡ 1 ∷ from (1 + 1) (n - 1)
-  first_of h = let e : n ≡ n - 0 = omega arith in ap (from 1) e ∙ from_step 0 n (omega arith)
+pub times_put : (p : Page) (x : ℕ) (l : List ℕ) → put (fold (λ q t. put q (32 ∷ decimal t)) (put p (decimal x)) l) (10 ∷ []) ≡ put p (line (x ∷ l))
+unfolding line
+times_put p x l = rest_put (put p (decimal x)) l ∙ put_first p (put p (decimal x)) (decimal x) (map decimal l) refl
 
-  pub times-start : 1 ≤ n → (p q : Page) → q ≡ put p (decimal (get_or c 0 0)) → TimesLeft (put p (line (map (λ j. at c j 0) (from 1 n)))) q 1
-  unfolding times_left line at
-  times-start h p q e =
-      put_first p q (decimal (get_or c 0 0)) (map decimal (map (λ j. at c j 0) (from (1 + 1) (n - 1)))) e
-      ∙ ap (λ l. put p (line (map (λ j. at c j 0) l))) (sym (first_of h))
+-- the first n places of a list, one by one
+places_are : (l : List ℕ) (i n : ℕ) → i + n ≤ length l → map (λ j. at l j 0) (from (suc i) n) ≡ take n (drop i l)
+unfolding from
+places_are l i zero h = refl
+places_are l i (suc n) h =
+    rw (at_suc l i 0, drop-cons l i 0 (omega arith)) (ap (λ m. get_or l i 0 ∷ m) (places_are l (suc i) n (omega arith)))
 
-  pub times-turn : (z q r : Page) (i : ℕ) → i < n → TimesLeft z q i → r ≡ put q (32 ∷ decimal (get_or c i 0)) → TimesLeft z r (i + 1)
-  unfolding times_left
-  times-turn z q r i m h e =
-      let t = map decimal (map (λ j. at c j 0) (from (i + 1 + 1) (n - (i + 1)))) in
-      put_next q r (decimal (get_or c i 0)) t e
-      ∙ ap (λ x. put q (rest (decimal x ∷ t))) (sym (rw (add-one i) (at_suc c i 0)))
-      ∙ ap (λ l. put q (rest (map decimal (map (λ j. at c j 0) l)))) (sym (from_step i n m))
-      ∙ h
-
-  pub times-end : (z q r : Page) (i : ℕ) → n ≤ i → TimesLeft z q i → r ≡ put q (10 ∷ []) → r ≡ z
-  unfolding times_left rest
-  times-end z q r i m h e = e ∙ (rw (from_end i n m) at h)
+pub times_are : (s : Set) → is_good (refusal (view s)) ≡ true → (c : List ℕ) → length c ≡ 64
+    → take s.count c ≡ map (λ j. at c j 0) (members (view s).policy)
+times_are s g c h =
+    sym (places_are c 0 s.count (omega (arith, good-count s g))) ∙ ap (map (λ j. at c j 0)) (sym (good-members s g))

@@ -1,57 +1,29 @@
 -- From what the writers put to the answers of the model.
---   fit_answer_lem, unfit_answer_lem  == the pages of a fit set and of an unfit one
---   found-good                        == a set with a verdict passes the checks;  fit_worsts: beside a fit one stand its worst finishes
---   refused-, fit-, unfit_judged      == the answer to a set that was read, by its judgement
---   refused-printed, judged-printed   == the answer to what was read of a text
+--   found-good                       == a set with a verdict passes the checks;  fit_worsts: beside a fit one stand its worst finishes
+--   refused-, fit_, unfit_judged     == the answer to a set that was read, by its judgement
+--   refused-printed, judged-printed  == the answer to what was read of a text
 -- Assumes nothing.
+use Rattle.std.specs.Prelude.{Err, Ok, Err as Refused, Ok as Found}
+use Rattle.checks.proofs.Checked.{passes, refused}
 use Prim.Native.Nat.{ℕ}
 use mathlib.Core.Path.{◌≡◌, refl, sym, ◌∙◌, ap}
 use mathlib.Core.Bool.{true}
-use mathlib.Core.List.{List, [], ◌∷◌, ◌++◌, map}
 use native.Mathlib.Omega.{arith}
 use borrow.Author.Tests.{eq-eqb, ne_eqb}
-use Rattle.model.specs.declared.Set.{Set}
 use Rattle.model.specs.declared.Refusal.{Refusal}
 use Rattle.model.specs.declared.Reading.{Reading}
 use Rattle.model.specs.declared.Miss.{Miss}
 use Rattle.model.specs.declared.Verdict.{Verdict}
 use Rattle.model.specs.declared.Verdict.TheVariants.{Fit, Unfit}
 use Rattle.model.specs.declared.Assessed.{Assessed}
-use Rattle.model.specs.declared.Judgement.TheVariants.{Refused, Found}
-use Rattle.model.specs.Lists.{at, from}
-use Rattle.model.specs.Sets.{View, view, members, span}
-use Rattle.model.specs.Refusals.{is_good, refusal}
-use Rattle.model.specs.Scenarios.{margin, verdict, worsts_beside}
+use Rattle.model.specs.Sets.{View, view}
+use Rattle.model.specs.Refusals.{is_good, checked, refusal}
+use Rattle.model.specs.Scenarios.{verdict, worsts_beside}
 use Rattle.model.specs.Answers.{unless, judged, assessed, worsts}
-use Rattle.model.specs.Texts.{decimal, fields, line}
-use Rattle.model.specs.Printed.{fit_word, refused_text, fit_text, unfit_text, judged_text, printed}
+use Rattle.model.specs.Printed.{refused_text, fit_text, unfit_text, judged_text, printed}
 use Rattle.laws.proofs.Bools.{split}
 use Rattle.pages.specs.declared.Page.{Page}
-use Rattle.pages.specs.Pages.{page, put}
-use Rattle.pages.proofs.Puts.{put-append, put-page}
-use Rattle.pages.specs.Lines.{job_line, miss_line}
-use Rattle.printing.specs.Lines.{job_lines}
-use Rattle.pages.proofs.LineLaws.{put_two, on_empty}
-use Rattle.printing.proofs.JobLaws.{good-members}
-
-pub fit_answer_lem : (v : View) (e a b h r : Page) (n : ℕ) → e ≡ page [] → a ≡ put e fit_word → n ≡ span v → b ≡ put a (32 ∷ decimal n)
-    → h ≡ put b (10 ∷ []) → r ≡ put h (job_lines v (members v.policy)) → r ≡ page (fit_text v)
-unfolding fit_text job_lines job_line margin
-fit_answer_lem v e a b h r n p q k f g d =
-    let l = job_lines v (members v.policy) in
-    on_empty e r (fields (fit_word ∷ decimal (span v) ∷ []) ++ l) p
-    (d
-    ∙ ap (λ x. put x l) (put_two e a b h fit_word (decimal (span v)) q (f ∙ ap (λ m. put a (32 ∷ decimal m)) k) g)
-    ∙ put-append e (fields (fit_word ∷ decimal (span v) ∷ [])) l)
-
-pub unfit_answer_lem : (s : Set) → is_good (refusal (view s)) ≡ true → (m : Miss) (c : List ℕ) (p r : Page) → p ≡ page (miss_line m)
-    → r ≡ put p (line (map (λ j. at c j 0) (from 1 s.count))) → r ≡ page (unfit_text (view s) m c)
-unfolding unfit_text miss_line
-unfit_answer_lem s g m c p r e f =
-    f
-    ∙ ap (λ x. put x (line (map (λ j. at c j 0) (from 1 s.count)))) e
-    ∙ put-page (miss_line m) (line (map (λ j. at c j 0) (from 1 s.count)))
-    ∙ ap (λ l. page (miss_line m ++ line (map (λ j. at c j 0) l))) (sym (good-members s g))
+use Rattle.pages.specs.Pages.{page}
 
 module _ (v : View) (a : Assessed) (e : a ≡ assessed v) where
   judgement_of_lem : a.judged.judgement ≡ (judged v).judgement
@@ -96,11 +68,11 @@ module _ (v : View) (a : Assessed) (e : a ≡ assessed v) where
         ∙ ap (λ x. page (judged_text v x (judged v).times)) (sym h ∙ judgement_of_lem)
 
 module _ (q : Reading) (p : Page) where
-  pub refused-printed : (q.refusal.number ≡ 0 → ⊥) → p ≡ page (refused_text q.refusal) → p ≡ page (printed q)
-  unfolding printed unless is_good
-  refused-printed n e = e ∙ rw (ne_eqb q.refusal.number 0 n)
+  pub refused-printed : (r : Refusal) → Err r ≡ checked q.refusal → p ≡ page (refused_text r) → p ≡ page (printed q)
+  unfolding printed unless
+  refused-printed r h e = let z = refused q.refusal r h in e ∙ rw (z.0, z.1) refl
 
-  pub judged-printed : q.refusal.number ≡ 0
+  pub judged-printed : Ok (tt {0}) ≡ checked q.refusal
       → p ≡ page (judged_text (view q.set) (judged (view q.set)).judgement (judged (view q.set)).times) → p ≡ page (printed q)
-  unfolding printed unless is_good
-  judged-printed z e = e ∙ rw (eq-eqb q.refusal.number 0 z)
+  unfolding printed unless
+  judged-printed h e = e ∙ rw (passes q.refusal h) refl

@@ -3,6 +3,7 @@
 --   form_small     == a set in the form is small
 --   whole          == so it is for every text;  shown: the page holds all of what is printed
 -- Assumes nothing.
+use Rattle.std.specs.Prelude.{Ok as Found}
 use Prim.Native.Nat.{ℕ, zero, suc, ◌-◌, ◌≤◌}
 use mathlib.Core.Path.{◌≡◌, refl, sym, ◌∙◌, ap, subst}
 use mathlib.Core.Bool.{true}
@@ -19,7 +20,6 @@ use Rattle.model.specs.declared.Set.{Set}
 use Rattle.model.specs.declared.Reading.{Reading}
 use Rattle.model.specs.declared.Miss.{Miss}
 use Rattle.model.specs.declared.Verdict.{Verdict}
-use Rattle.model.specs.declared.Judgement.TheVariants.{Found}
 use Rattle.model.specs.declared.Verdict.TheVariants.{Fit, Unfit}
 use Rattle.model.specs.Lists.{at, largest}
 use Rattle.model.specs.Sets.{view, members, span, blank, job, job_at, order_of}

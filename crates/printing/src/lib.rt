@@ -12,45 +12,40 @@ ghost use Rattle.pages.specs.Pages.{page};
 mod lines;
 
 use analysis::assess;
-use lines::{fit_page, unfit_page};
-use model::{GOOD, Judgement, Reading, Set, Verdict};
+use lines::{Fit, unfit_page};
+use model::{Reading, Set, Verdict};
 use pages::Page;
-use pages::lines::refused_page;
 use plan_text::read;
 
 // The answer to a set that was read: what refuses it, or its verdict.
-fn judged_page(s: Set) -> Page
-    ensures { result ≡ page (judged_text (view s) (judged (view s)).judgement (judged (view s)).times) }
+fn judged_page(s: &Set) -> Page
+    ensures { result ≡ page (judged_text (view s.now) (judged (view s.now)).judgement (judged (view s.now)).times) }
 {
-    let a = assess(s);
-    let j = a.judged;
-    let judgement = j.judgement;
-    let times = j.times;
-    let worsts = a.worsts;
-    match judgement {
-        Judgement::Refused(refusal) => refused_page(refusal),
-        Judgement::Found(verdict) => match verdict {
-            Verdict::Fit => fit_page(s, worsts),
-            Verdict::Unfit(miss) => unfit_page(s, miss, times),
-        },
+    let a = assess(*s);
+    match a.judged.judgement {
+        Err(refusal) => Page::refused(refusal),
+        Ok(Verdict::Fit) => Fit {
+            set: s,
+            worsts: &a.worsts,
+        }
+        .page(),
+        Ok(Verdict::Unfit(miss)) => unfit_page(s, miss, &a.judged.times),
     }
 }
 
 // The answer to what was read of a text.
-fn page_of(q: Reading) -> Page
-    ensures { result ≡ page (printed q) }
+fn page_of(q: &Reading) -> Page
+    ensures { result ≡ page (printed q.now) }
 {
-    let refusal = q.refusal;
-    if refusal.number != GOOD {
-        return refused_page(refusal);
+    match q.refusal.check() {
+        Ok(()) => judged_page(&q.set),
+        Err(refusal) => Page::refused(refusal),
     }
-    let s = q.set;
-    judged_page(s)
 }
 
 // What the program prints for a text.
 pub fn answer(text: &[u8]) -> Page
     ensures { (q : ReadingOf) × Reads text.now q × (result ≡ page (printed q)) }
 {
-    page_of(read(text))
+    page_of(&read(text))
 }

@@ -11,61 +11,60 @@ ghost use Rattle.printing.specs.Lines.{job_lines};
 
 use checks::span_of;
 use model::{Miss, Set};
-use pages::lines::{miss_page, with_job};
-use pages::{Page, empty_page, with_byte, with_bytes, with_decimal, with_field};
+use pages::Page;
 
-// The lines of all jobs.
-fn with_jobs(p: Page, s: Set, worsts: [u16; 64]) -> Page
-    requires { (is_good (refusal (view s)) ≡ true) × (worsts ≡ worsts_of (view s)) }
-    ensures { result ≡ put p (job_lines (view s) (members (view s).policy)) }
-{
-    let n = s.count;
-    let mut q = p;
-    let mut i: usize = 0;
-    while i < n {
-        let job = s.jobs[i];
-        let next = with_job(q, (i + 1) as u64, worsts[i], job.deadline);
-        q = next;
-        i += 1;
+// A set that passes the checks, with its worst finishes: what is printed of a fit set.
+#[derive(Clone, Copy)]
+pub struct Fit<'a> {
+    pub set: &'a Set,
+    pub worsts: &'a [u16; 64],
+    ghost passes: { is_good (refusal (view set.now)) ≡ true },
+    ghost worsts_are: { worsts.now ≡ worsts_of (view set.now) },
+}
+
+impl Fit<'_> {
+    // The lines of all jobs.
+    fn with_jobs(&self, page: Page) -> Page
+        ensures { result ≡ put page (job_lines (view self.now.set.now) (members (view self.now.set.now).policy)) }
+    {
+        self.set.jobs[..self.set.count]
+            .iter()
+            .zip(self.worsts)
+            .enumerate()
+            .fold(page, |page, (i, (job, &worst))| {
+                page.with_job(i as u64 + 1, worst, job.deadline)
+            })
     }
-    q
-}
 
-// "FIT and the span; then for each job its number, worst finish and margin."
-pub fn fit_page(s: Set, worsts: [u16; 64]) -> Page
-    requires { (is_good (refusal (view s)) ≡ true) × (worsts ≡ worsts_of (view s)) }
-    ensures { result ≡ page (fit_text (view s)) }
-{
-    let word = with_bytes(empty_page(), b"FIT");
-    let head = with_byte(with_field(word, span_of(s)), 10);
-    with_jobs(head, s, worsts)
-}
-
-fn wide(x: u16) -> u64
-    ensures { result ≡ x }
-{
-    x as u64
+    // "FIT and the span; then for each job its number, worst finish and margin."
+    pub fn page(&self) -> Page
+        ensures { result ≡ page (fit_text (view self.now.set.now)) }
+    {
+        let head = Page::empty()
+            .with_bytes(b"FIT")
+            .with_field(span_of(*self.set))
+            .with_byte(b'\n');
+        self.with_jobs(head)
+    }
 }
 
 // "One line of the N running times in job order."
-fn with_times(p: Page, times: [u16; 64], n: usize) -> Page
-    requires { (1 ≤ n) × (n ≤ 64) }
-    ensures { result ≡ put p (line (map (λ j. at times j 0) (from 1 n))) }
+fn with_times(page: Page, times: &[u16]) -> Page
+    ensures { result ≡ put page (line times.now) }
 {
-    let mut q = with_decimal(p, wide(times[0]));
-    let mut i: usize = 1;
-    while i < n {
-        let next = with_field(q, wide(times[i]));
-        q = next;
-        i += 1;
-    }
-    with_byte(q, 10)
+    let Some((first, rest)) = times.split_first() else {
+        return page.with_byte(b'\n');
+    };
+    let start = page.with_decimal(u64::from(*first));
+    rest.iter()
+        .fold(start, |page, &time| page.with_field(u64::from(time)))
+        .with_byte(b'\n')
 }
 
 // "An unfit set gives `UNFIT scenario job finish` and one line of the N running times in job order."
-pub fn unfit_page(s: Set, m: Miss, times: [u16; 64]) -> Page
-    requires { is_good (refusal (view s)) ≡ true }
-    ensures { result ≡ page (unfit_text (view s) m times) }
+pub fn unfit_page(s: &Set, m: Miss, times: &[u16; 64]) -> Page
+    requires { is_good (refusal (view s.now)) ≡ true }
+    ensures { result ≡ page (unfit_text (view s.now) m times.now) }
 {
-    with_times(miss_page(m), times, s.count)
+    with_times(Page::missed(m), &times[..s.count])
 }

@@ -1,46 +1,39 @@
 // What the reader's answer is made of: a job of the numbers of its line, no job, no set, and the answer with its refusal.
 #![tactic(auto)]
 
-ghost use Rattle.std.specs.Prelude.{◌≡◌};
+ghost use Rattle.std.specs.Prelude.{◌≡◌, ◌≤◌, length};
 ghost use Rattle.model.specs.Sets.{blank};
 ghost use Rattle.model.specs.Texts.{level_number, no_set};
-ghost use Rattle.forms.specs.Forms.{level_of, job_of};
+ghost use Rattle.forms.specs.Forms.{job_of};
 ghost use Rattle.readings.specs.Readings.{answer, refused_at};
 
 use model::{Job, Level, Order, Reading, Refusal, Set, TEXT};
 
-// The level of a number.
-fn level_of(x: u16) -> Level
-    ensures { result ≡ level_of x }
-{
-    if x == 0 { Level::Lo } else { Level::Hi }
-}
-
 // The number of a level.
+#[tactic(auto, unfolding(model::specs::Texts::level_number))]
 pub fn level_number(l: Level) -> usize
     ensures { result ≡ level_number l }
 {
-    match l {
-        Level::Lo => 0,
-        Level::Hi => 1,
-    }
+    l as usize
 }
 
-// The job that a line says: `A D level LO HI`.
-pub fn job_of(values: [u16; 64]) -> Job
-    ensures { result ≡ job_of values }
+// The job that a line says: `A D level LO HI`. A number that it lacks is 0.
+#[tactic(auto, unfolding(forms::specs::Forms::job_of, forms::specs::Forms::level_of, model::specs::Sets::job))]
+pub fn job_of(values: &[u16]) -> Job
+    ensures { result ≡ job_of values.now }
 {
-    let level = level_of(values[2]);
+    let value = |i: usize| values.get(i).copied().unwrap_or(0);
     Job {
-        arrival: values[0],
-        deadline: values[1],
-        level,
-        lo: values[3],
-        hi: values[4],
+        arrival: value(0),
+        deadline: value(1),
+        level: if value(2) == 0 { Level::Lo } else { Level::Hi },
+        lo: value(3),
+        hi: value(4),
     }
 }
 
 // What stands in the room of a job.
+#[tactic(auto, unfolding(model::specs::Sets::blank, model::specs::Sets::job))]
 pub fn no_job() -> Job
     ensures { result ≡ blank }
 {
@@ -54,22 +47,24 @@ pub fn no_job() -> Job
 }
 
 // No set: all 0.
+#[tactic(auto, unfolding(model::specs::Texts::no_set, model::specs::Sets::set))]
 pub fn no_set() -> Set
     ensures { result ≡ no_set }
 {
-    let none = no_job();
-    let jobs = [none; 64];
-    let entries = [0u16; 64];
-    let order = Order { entries, count: 0 };
+    let order = Order {
+        entries: [0; 64],
+        count: 0,
+    };
     Set {
-        jobs,
+        jobs: [no_job(); 64],
         count: 0,
         lo: order,
         hi: order,
     }
 }
 
-// An answer: the refusal's number and place, and the set.
+// An answer: the refusal's number and place, and the set. (`as`: there is no u64::from(usize).)
+#[tactic(auto, unfolding(crate::specs::Readings::answer))]
 pub fn answer(number: u8, place: usize, set: Set) -> Reading
     ensures { result ≡ answer number place set }
 {
@@ -83,6 +78,7 @@ pub fn answer(number: u8, place: usize, set: Set) -> Reading
 }
 
 // Refusal 1 with its place.
+#[tactic(auto, unfolding(crate::specs::Readings::refused_at))]
 pub fn refused(place: usize) -> Reading
     ensures { result ≡ refused_at place }
 {

@@ -1,45 +1,44 @@
-// The rules of one job.
-ghost use Rattle.std.specs.Prelude.{◌≡◌};
+// The rules of one job, and the jobs of a set that they are asked of.
+ghost use Rattle.std.specs.Prelude.{◌≡◌, length, min, take};
 ghost use Rattle.model.specs.Sets.{is_hi};
-ghost use Rattle.rules.specs.Rules.{untimely, unbudgeted, breaks};
+ghost use Rattle.rules.specs.Rules.{untimely, unbudgeted};
 
-use model::{Job, Level, TIME};
+use crate::orders::places;
+use model::{Job, Level, Set};
 
 // The level is HI.
+#[tactic(auto, unfolding(model::specs::Sets::is_hi))]
 pub fn is_hi(l: Level) -> bool
     ensures { result ≡ is_hi l }
 {
-    match l {
-        Level::Lo => false,
-        Level::Hi => true,
-    }
+    l == Level::Hi
 }
 
 // The deadline is not after the arrival.
-fn untimely(j: Job) -> bool
+#[tactic(auto, unfolding(crate::specs::Rules::untimely))]
+pub fn untimely(j: Job) -> bool
     ensures { result ≡ untimely j }
 {
     j.deadline <= j.arrival
 }
 
 // The budgets break their rule.
-fn unbudgeted(j: Job) -> bool
+#[tactic(auto, unfolding(crate::specs::Rules::unbudgeted))]
+pub fn unbudgeted(j: Job) -> bool
     ensures { result ≡ unbudgeted j }
 {
-    let l = j.level;
-    if j.lo < 1 {
-        return true;
-    }
-    if is_hi(l) { j.hi <= j.lo } else { j.lo != j.hi }
+    let uneven = if is_hi(j.level) {
+        j.hi <= j.lo
+    } else {
+        j.lo != j.hi
+    };
+    j.lo < 1 || uneven
 }
 
-// The job breaks the rule of refusal `number`, TIME or BUDGET.
-pub fn breaks(j: Job, number: u8) -> bool
-    ensures { result ≡ breaks number j }
+// The jobs of a set, job 1 first: those that have a place.
+pub fn members(s: &Set) -> &[Job]
+    ensures jobs { result.now ≡ take (min s.now.count 64) s.now.jobs }
+    ensures count { length result.now ≡ min s.now.count 64 }
 {
-    if number == TIME {
-        untimely(j)
-    } else {
-        unbudgeted(j)
-    }
+    &s.jobs[..places(s.count)]
 }

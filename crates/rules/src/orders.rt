@@ -1,8 +1,8 @@
 // The rules of one order, entry after entry.
-ghost use Rattle.std.specs.Prelude.{◌≤◌, min, ◌≡◌, drop};
-ghost use Rattle.model.specs.Lists.{cut, mem};
+ghost use Rattle.std.specs.Prelude.{min, ◌≡◌};
+ghost use Rattle.model.specs.Lists.{cut};
 ghost use Rattle.model.specs.Refusals.{fault};
-ghost use Rattle.rules.specs.Rules.{marked};
+ghost use Rattle.rules.specs.Rules.{marked, nonzero};
 
 use model::Order;
 
@@ -10,51 +10,26 @@ use model::Order;
 pub fn places(n: usize) -> usize
     ensures { result ≡ min n 64 }
 {
-    if n < 64 { n } else { 64 }
+    n.min(64)
 }
 
 // The number has a mark, and it is true.
-fn marked(ok: [bool; 64], x: u16) -> bool
-    ensures { result ≡ marked ok x }
+#[tactic(auto, unfolding(crate::specs::Rules::marked, model::specs::Lists::at))]
+fn marked(ok: &[bool; 64], x: u16) -> bool
+    ensures { result ≡ marked ok.now x }
 {
-    let k = x as usize;
-    if k < 1 {
-        return false;
-    }
-    if 64 < k {
-        return false;
-    }
-    ok[k - 1]
+    x != 0 && ok.get(usize::from(x) - 1).copied().unwrap_or(false)
 }
 
-// The number stands in the order, at a place from `a` on and before `b`.
-fn stands(o: Order, a: usize, b: usize, x: u16) -> bool
-    requires { b ≤ 64 }
-    ensures { result ≡ mem x (drop a (cut 0 b o.entries)) }
+// The first position of the order, from 1, whose entry is not marked or repeats.
+pub fn fault_of(ok: &[bool; 64], o: &Order) -> Option<u64>
+    ensures { result ≡ nonzero (fault (marked ok.now) (cut 0 (min o.now.count 64) o.now.entries)) }
 {
-    let mut k = a;
-    while k < b {
-        if o.entries[k] == x {
-            return true;
+    let order = &o.entries[..places(o.count)];
+    for (i, &x) in order.iter().enumerate() {
+        if !marked(ok, x) || order[..i].contains(&x) {
+            return Some(i as u64 + 1);
         }
-        k += 1;
     }
-    false
-}
-
-// The first position of the order, from 1, whose entry is not marked or repeats; 0 where there is none.
-pub fn fault_of(ok: [bool; 64], o: Order) -> u64
-    ensures { result ≡ fault (marked ok) (cut 0 (min o.count 64) o.entries) }
-{
-    let n = places(o.count);
-    let mut i = 0;
-    while i < n {
-        let x = o.entries[i];
-        let next = i + 1;
-        if !marked(ok, x) | stands(o, 0, i, x) {
-            return next as u64;
-        }
-        i = next;
-    }
-    0
+    None
 }

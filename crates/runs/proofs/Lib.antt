@@ -1,11 +1,10 @@
 -- Laws that the proofs of the runs cite; Room serves the tables too.
-pub mod Account
 pub mod Overruns
 pub mod Starts
 pub mod Steps
 pub mod Progress
 pub mod Advance
 pub mod Room
-pub mod SlotTurns
+pub mod Refused
 pub mod SlotAnswers
 pub mod RangeLaws

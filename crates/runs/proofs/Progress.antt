@@ -8,6 +8,7 @@
 --   view-part           == the view of columns is such a policy's
 --   progress_run        == at the span its progress is what the run answers
 -- Assumes nothing.
+use Rattle.std.specs.Prelude.{Some as At}
 use Prim.Native.Nat.{ℕ, zero, suc, ◌-◌, ◌≤◌, ◌<◌}
 use mathlib.Core.Path.{◌≡◌, refl, sym, ◌∙◌, ap, fun_ext}
 use mathlib.Core.Bool.{Bool, true, false, cond, not, ◌&&◌, ◌||◌}
@@ -19,7 +20,6 @@ use borrow.Author.Tests.{eq-eqb, ne_eqb, eqb-true, eqb-false}
 use Rattle.model.specs.declared.Level.{Level}
 use Rattle.model.specs.declared.Level.TheVariants.{Lo, Hi}
 use Rattle.model.specs.declared.State.{State}
-use Rattle.model.specs.declared.Switch.TheVariants.{At}
 use Rattle.model.specs.Lists.{at, from, numbers, least}
 use Rattle.model.specs.Sets.{Policy, View, is_hi, span}
 use Rattle.model.specs.Runs.{time, start, mode_now, slot_now, account, step, state_at, mode_at, slot_at, had_at, done_at, finish_of, switch_of, mark, outcome_in, switch_in}

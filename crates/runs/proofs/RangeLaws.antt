@@ -1,9 +1,11 @@
 -- The range of running times, a job at a time, and the answer of a given run.
 --   Inside k c i       == the times of the jobs passed lie in their range
 --   inside_more, outside-here, outside-none   == a turn of the loop over the jobs
---   checked_out, checked_in                  == check 9, where a time lies outside and where none does
---   ran-refused, ran-outside, ran-found       == the three answers;  can_run_given: what the run asks
+--   refused_9, passed_9                       == check 9, where a time lies outside and where none does
+--   ready                                     == a set that passes the checks is one that a run can be made of
+--   ran-refused, ran-outside, ran-found       == the three answers
 -- Assumes nothing.
+use Rattle.std.specs.Prelude.{Ok, Err}
 use Prim.Native.Nat.{ℕ, suc, ◌+◌, ◌-◌, ◌≤◌, ◌<◌}
 use mathlib.Core.Path.{◌≡◌, refl, sym, ◌∙◌, ap, subst}
 use mathlib.Core.Bool.{Bool, true, false, cond, not, ◌&&◌}
@@ -12,26 +14,31 @@ use native.Mathlib.Omega.{arith}
 use native.Mathlib.Numerals.{add-one}
 use lib.Dec.{eqb, leb}
 use lib.ListN.{length, get_or}
-use borrow.Author.Tests.{eqb-true, eqb-false, eq-eqb, ne_eqb}
+use borrow.Author.Tests.{eqb-true, eqb-false, not-false, ne_eqb}
 use Rattle.model.specs.declared.Refusal.{Refusal}
 use Rattle.model.specs.declared.Ran.{Ran}
 use Rattle.model.specs.declared.Set.{Set}
-use Rattle.model.specs.Sets.{View, view, members, critical}
+use Rattle.model.specs.Lists.{first}
+use Rattle.model.specs.Sets.{View, view, members, critical, span}
 use Rattle.model.specs.Runs.{time, limit, in_range, is_run}
-use Rattle.model.specs.Refusals.{good, is_good, applies, placed, first_of, lowest, refusal, check_run}
+use Rattle.model.specs.Refusals.{good, is_good, checked, applies, placed, first_of, lowest, refusal, check_run}
 use Rattle.model.specs.Answers.{unless, ran}
 use Rattle.laws.proofs.Bools.{split, not_i, not_i_false}
 use Rattle.laws.proofs.Lists.{first-none, first_zero, any_none}
 use Rattle.laws.proofs.Ascending.{members_ascending, first_is}
-use Rattle.laws.proofs.Places.{at_suc, members_i, members_e, members_nonzero}
-use Rattle.laws.proofs.Checks.{check_run_lem}
-use Rattle.laws.proofs.Answers.{bad_of, ran-good}
+use Rattle.laws.proofs.Places.{Placed, at_suc, members_i, members_e, members_nonzero}
+use Rattle.laws.proofs.Checks.{check_run_lem, applies-not}
+use Rattle.laws.proofs.Answers.{ran-good}
+use Rattle.laws.proofs.Ends.{Times}
+use Rattle.checks.proofs.Checked.{passes, refused}
 use Rattle.columns.specs.declared.Columns.{Columns}
-use Rattle.model.specs.declared.Ran.{Ran}
-use Rattle.columns.specs.Columns.{view_of, Testable, Prepared}
+use Rattle.columns.specs.Columns.{view_of, columns_of, Testable, Prepared}
+use Rattle.columns.proofs.Views.{prepared}
 use Rattle.columns.proofs.Entries.{part_is, part_e, critical_is, lo_is, hi_is}
-use Rattle.runs.specs.Engine.{run_of, Runnable}
+use Rattle.runs.specs.declared.engine.Progress.{Progress}
+use Rattle.runs.specs.Engine.{progress_at, run_of, Runnable}
 use Rattle.runs.specs.Ranges.{outside, not_run}
+use Rattle.runs.proofs.Progress.{progress_run}
 
 abbrev pub Inside : Columns → List ℕ → ℕ → Type 0
 Inside k c i = (m : ℕ) → m < i → in_range (view_of k) c (suc m) ≡ true
@@ -77,55 +84,66 @@ module _ (k : Columns) (h : Testable k) (c : List ℕ) where
       (first_zero (λ j. not (in_range (view_of k) c j)) (members (view_of k).policy)
       (λ j m. let r = part_e k j (members_e (view_of k).policy j m) in inside_is i j p r.0 (omega (arith, r))))
 
+-- check 9 --------------------------------------------------------------------------------------------------------------------------------
+
+module _ (v : View) (c : List ℕ) where
+  pub refused_9 : (j : ℕ) → j ≡ outside v c → (j ≡ 0 → ⊥) → Err (record { number = 9; place = j }) ≡ checked (check_run v c)
+  unfolding check_run lowest placed applies outside checked is_good
+  refused_9 j e z = rw (← e, ne_eqb j 0 z) refl
+
+  pub passed_9 : 0 ≡ outside v c → Ok tt ≡ checked (check_run v c)
+  unfolding check_run lowest placed applies outside checked is_good good
+  passed_9 e = rw (← e) refl
+
+  none_outside : is_good (check_run v c) ≡ true → outside v c ≡ 0
+  unfolding check_run lowest placed outside
+  none_outside h =
+      let k = first (λ j. not (in_range v c j)) (members v.policy) in
+      eqb-true k 0 (not-false (eqb k 0) (applies-not 9 k (not (eqb k 0)) h (omega arith)))
+
+  checked_in : is_good (check_run v c) ≡ true → check_run v c ≡ good
+  unfolding check_run lowest placed applies outside
+  checked_in h = rw (none_outside h) refl
+
   -- where no time lies outside its range the run can be executed
-  pub can_run_given : length c ≡ 64 → outside (view_of k) c ≡ 0 → Runnable k c
+  times_in_range : Placed v.policy → is_good (check_run v c) ≡ true → Times v c
   unfolding outside is_run
-  can_run_given n z =
-      let v = view_of k in
-      record {
-        full = h.full;
-        times = n;
-        sound = h.sound;
-        range =
-            (check_run_lem v c h.sound.ordered.room).0
-            (not_i
-            (any_none (λ j. not (in_range v c j)) (members v.policy)
-            (λ j m. first-none (λ i. not (in_range v c i)) (members v.policy) j (members_nonzero v.policy) z m)));
-      }
+  times_in_range room h =
+      (check_run_lem v c room).0
+      (not_i
+      (any_none (λ j. not (in_range v c j)) (members v.policy)
+      (λ j m. first-none (λ i. not (in_range v c i)) (members v.policy) j (members_nonzero v.policy) (none_outside h) m)))
+
+-- what the checks leave -----------------------------------------------------------------------------------------------------------------
+
+pub ready : (s : Set) (k : Columns) → Ok tt ≡ checked (refusal (view s)) → k ≡ columns_of s → length k.lo_order ≡ 64
+    → length k.hi_order ≡ 64 → Prepared s k
+unfolding columns_of
+ready s k g e lo hi =
+    prepared s k (passes (refusal (view s)) g) (ap (λ (x : Columns). length x.lo_order) (sym e) ∙ lo)
+    (ap (λ (x : Columns). length x.hi_order) (sym e) ∙ hi) e
 
 -- the three answers ---------------------------------------------------------------------------------------------------------------------
 
-pub ran-refused : (v : View) (c : List ℕ) (r : Refusal) (x : Ran) → r ≡ refusal v → (r.number ≡ 0 → ⊥) → x ≡ not_run r → x ≡ ran v c
-unfolding ran unless first_of not_run
-ran-refused v c r x e n f = f ∙ ap not_run e ∙ sym (rw (bad_of v r e n) (rw (bad_of v r e n) refl))
-
--- refusal 9, where a time lies outside
-pub checked_out : (v : View) (c : List ℕ) → (outside v c ≡ 0 → ⊥) → check_run v c ≡ record { number = 9; place = outside v c }
-unfolding check_run lowest placed applies outside
-checked_out v c n = rw (ne_eqb (outside v c) 0 n) refl
-
-pub checked_in : (v : View) (c : List ℕ) → outside v c ≡ 0 → check_run v c ≡ good
-unfolding check_run lowest placed applies outside
-checked_in v c z = rw (eq-eqb (outside v c) 0 z) refl
-
-ran_9 : (v : View) (c : List ℕ) (j : ℕ) → is_good (refusal v) ≡ true → check_run v c ≡ record { number = 9; place = j }
-    → ran v c ≡ not_run (record { number = 9; place = j })
-unfolding ran unless first_of not_run is_good
-ran_9 v c j g e = rw g (rw e refl)
+module _ (v : View) (c : List ℕ) where
+  pub ran-refused : (x : Refusal) → Err x ≡ checked (refusal v) → not_run x ≡ ran v c
+  unfolding ran unless first_of not_run
+  ran-refused x e = let r = refused (refusal v) x e in ap not_run r.0 ∙ sym (rw r.1 (rw r.1 refl))
 
 module _ (s : Set) (k : Columns) (p : Prepared s k) (c : List ℕ) where
-  same-outside : outside (view_of k) c ≡ outside (view s) c
-  same-outside = ap (λ v. outside v c) p.same
+  pub ran-outside : (x : Refusal) → Err x ≡ checked (check_run (view_of k) c) → not_run x ≡ ran (view s) c
+  unfolding ran unless first_of not_run
+  ran-outside x e =
+      let r = refused (check_run (view s) c) x (rw p.same at e) in
+      ap not_run r.0 ∙ sym (rw p.good (rw r.1 (rw r.1 refl)))
 
-  pub ran-outside : (j : ℕ) (x : Ran) → j ≡ outside (view_of k) c → (j ≡ 0 → ⊥) → x ≡ not_run (record { number = 9; place = j }) → x ≡ ran (view s) c
-  ran-outside j x e nz f =
-      let z : outside (view s) c ≡ j = sym (e ∙ same-outside) in
-      f
-      ∙ sym
-      (ran_9 (view s) c j p.good
-      (checked_out (view s) c (λ w. nz (sym z ∙ w)) ∙ ap (λ m. record { number = 9; place = m }) z))
-
-  pub ran-found : (r : Ran) → outside (view_of k) c ≡ 0 → r ≡ run_of (view_of k) c → r ≡ ran (view s) c
-  unfolding run_of
-  ran-found r z e =
-      e ∙ ap (λ v. run_of v c) p.same ∙ sym (ran-good (view s) c p.good (checked_in (view s) c (sym same-outside ∙ z)))
+  pub ran-found : Ok tt ≡ checked (check_run (view_of k) c) → (g : Progress) (r : Refusal) → r ≡ good → g ≡ progress_at (view_of k).policy k.n c (span (view s))
+      → ◌≡◌ {A = Ran} (record { refusal = r; finishes = g.finishes; switch = g.switch }) (ran (view s) c)
+  unfolding run_of good
+  ran-found e g y i f =
+      let q : is_good (check_run (view_of k) c) ≡ true = passes (check_run (view_of k) c) e in
+      let r : Runnable k c =
+      record { sound = p.testable.sound; range = times_in_range (view_of k) c p.testable.sound.ordered.room q } in
+      rw (i, f ∙ ap (λ v. progress_at (view_of k).policy k.n c (span v)) (sym p.same)) (progress_run k c r)
+      ∙ ap (λ v. run_of v c) p.same
+      ∙ sym (ran-good (view s) c p.good (rw p.same at (checked_in (view_of k) c q)))

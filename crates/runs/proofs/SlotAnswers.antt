@@ -1,84 +1,57 @@
 -- From the ways that writing a run's slots ends to the model's answers.
---   slots-refused, slots-short, slots-outside, slots-good   == the refusal: of the set, 8, 9, or none
---   slots_pass     == what it says that there is none: the set passes, and the room suffices
---   fillable       == then its slots can be written there
---   kept-slots     == where there is one, the room lent stays as it is;  made_slots: where there is none, it holds the run's slots
+--   refused_first, refused_room, after_checks   == the refusal: of the set, 8, or what check 9 says
+--   kept, made     == what the room lent holds then: what it held, or the run's slots
 -- Assumes nothing.
-use Prim.Native.Nat.{ℕ, ◌≤◌, ◌<◌}
+use Rattle.std.specs.Prelude.{Ok, Err}
+use Prim.Native.Nat.{ℕ, ◌≤◌}
 use mathlib.Core.Path.{◌≡◌, refl, sym, ◌∙◌, ap}
-use mathlib.Core.Bool.{true}
-use mathlib.Core.List.{List, [], ◌∷◌, ◌++◌}
+use mathlib.Core.List.{List, [], ◌∷◌, ◌++◌, map}
 use native.Mathlib.Omega.{arith}
 use lib.ListN.{length, drop}
 use Rattle.model.specs.declared.Refusal.{Refusal}
 use Rattle.model.specs.declared.Set.{Set}
+use Rattle.model.specs.Lists.{from}
 use Rattle.model.specs.Sets.{View, view, span}
 use Rattle.model.specs.Runs.{slot_at}
 use Rattle.model.specs.Tables.{table_of}
-use Rattle.model.specs.Refusals.{good, is_good, first_of, refusal, check_room, check_run}
-use Rattle.model.specs.Answers.{slots_refusal, slots_in}
-use Rattle.laws.proofs.Checks.{first_good}
-use Rattle.laws.proofs.Refusals.{number-good, unless-good, unless_bad, first-here, first-later, short-here, room_enough, room-good}
-use Rattle.laws.proofs.Answers.{bad_of}
+use Rattle.model.specs.Refusals.{checked, refusal, check_room, check_run}
+use Rattle.model.specs.Answers.{unless, slots_refusal, slots_in}
+use Rattle.laws.proofs.Refusals.{room-good}
 use Rattle.columns.specs.declared.Columns.{Columns}
 use Rattle.columns.specs.Columns.{view_of, Prepared}
-use Rattle.runs.specs.Ranges.{outside}
-use Rattle.runs.specs.Room.{Fillable}
-use Rattle.runs.proofs.RangeLaws.{checked_out, checked_in}
+use Rattle.checks.proofs.Checked.{passes, refused}
+use Rattle.runs.proofs.Refused.{taken, passed, last}
 
 module _ (v : View) (c : List ℕ) (n : ℕ) where
-  pub slots-refused : (r : Refusal) → r ≡ refusal v → (r.number ≡ 0 → ⊥) → r ≡ slots_refusal v c n
+  pub refused_first : (x : Refusal) → Err x ≡ checked (refusal v) → Err x ≡ checked (slots_refusal v c n)
   unfolding slots_refusal
-  slots-refused r e z = e ∙ sym (first-here (refusal v) (check_room v n n ∷ check_run v c ∷ []) (bad_of v r e z))
+  refused_first x e = taken (refusal v) x (check_room v n n ∷ check_run v c ∷ []) e
 
-  pub slots_pass : (r : Refusal) → r ≡ slots_refusal v c n → r.number ≡ 0 → (is_good (refusal v) ≡ true) × (span v ≤ n)
-  unfolding slots_refusal
-  slots_pass r e z =
-      let l = check_run v c ∷ [] in
-      let a = first_good (refusal v) (check_room v n n ∷ l) (number-good (slots_refusal v c n) r e z) in
-      (a.0, (room-good v n n (first_good (check_room v n n) l a.1).0).0)
-
-  module _ (m : ℕ) (e : m ≡ span v) (g : is_good (refusal v) ≡ true) where
-    past_set : slots_refusal v c n ≡ first_of (check_room v n n ∷ check_run v c ∷ [])
+  module _ (g : Ok tt ≡ checked (refusal v)) where
+    pub refused_room : (x : Refusal) → Err x ≡ checked (check_room v n n) → Err x ≡ checked (slots_refusal v c n)
     unfolding slots_refusal
-    past_set = first-later (refusal v) (check_room v n n ∷ check_run v c ∷ []) g
+    refused_room x e =
+        taken (check_room v n n) x (check_run v c ∷ []) e ∙ passed (refusal v) (check_room v n n ∷ check_run v c ∷ []) g
 
-    pub slots-short : n < m → record { number = 8; place = m } ≡ slots_refusal v c n
-    unfolding is_good
-    slots-short h =
-        let q : check_room v n n ≡ record { number = 8; place = m } = short-here v n n (omega arith) ∙ ap (λ k. record { number = 8; place = k }) (sym e) in
-        sym (past_set ∙ first-here (check_room v n n) (check_run v c ∷ []) (rw q refl) ∙ q)
+    after_room : Ok tt ≡ checked (check_room v n n) → checked (check_run v c) ≡ checked (slots_refusal v c n)
+    unfolding slots_refusal
+    after_room r =
+        last (check_run v c) ∙ passed (check_room v n n) (check_run v c ∷ []) r
+        ∙ passed (refusal v) (check_room v n n ∷ check_run v c ∷ []) g
 
-    past_room : m ≤ n → slots_refusal v c n ≡ first_of (check_run v c ∷ [])
-    unfolding is_good good
-    past_room h = past_set ∙ first-later (check_room v n n) (check_run v c ∷ []) (rw (room_enough v n n (omega arith) (omega arith)) refl)
+pub kept : (v : View) (c table : List ℕ) (x : Refusal) → Err x ≡ checked (slots_refusal v c (length table)) → table ≡ slots_in v c table
+unfolding slots_in unless
+kept v c table x e = rw (refused (slots_refusal v c (length table)) x e).1 refl
 
-    pub slots-outside : (j : ℕ) → m ≤ n → j ≡ outside v c → (j ≡ 0 → ⊥) → record { number = 9; place = j } ≡ slots_refusal v c n
-    unfolding is_good
-    slots-outside j h o z =
-        let q : check_run v c ≡ record { number = 9; place = j } =
-        checked_out v c (λ w. z (o ∙ w)) ∙ ap (λ k. record { number = 9; place = k }) (sym o) in
-        sym (past_room h ∙ first-here (check_run v c) [] (rw q refl) ∙ q)
+module _ (s : Set) (k : Columns) (p : Prepared s k) (c table : List ℕ) (g : Ok tt ≡ checked (refusal (view s)))
+    (r : Ok tt ≡ checked (check_room (view s) (length table) (length table))) where
+  pub after_checks : checked (check_run (view_of k) c) ≡ checked (slots_refusal (view s) c (length table))
+  after_checks = ap (λ v. checked (check_run v c)) p.same ∙ after_room (view s) c (length table) g r
 
-    pub slots-good : m ≤ n → 0 ≡ outside v c → record { number = 0; place = 0 } ≡ slots_refusal v c n
-    unfolding is_good good first_of
-    slots-good h o = sym (past_room h ∙ rw (checked_in v c (sym o)) refl)
-
-module _ (s : Set) (k : Columns) (p : Prepared s k) (table : List ℕ) where
-  pub fillable : (n : ℕ) → n ≡ span (view s) → span (view s) ≤ length table → Fillable k n table
-  fillable n e h = record { testable = p.testable; end = e ∙ ap span (sym p.same); room = rw p.same h }
-
-  pub made_slots : (c : List ℕ) (r : Refusal) (l : List ℕ) → r ≡ slots_refusal (view s) c (length table) → r.number ≡ 0
-      → l ≡ table_of (view_of k) (slot_at (view_of k).policy c) ++ drop (span (view_of k)) table → l ≡ slots_in (view s) c table
-  unfolding slots_in
-  made_slots c r l e z m =
-      m
-      ∙ ap (λ v. table_of v (slot_at v.policy c) ++ drop (span v) table) p.same
-      ∙ unless-good (slots_refusal (view s) c (length table)) r e table
-      (table_of (view s) (slot_at (view s).policy c) ++ drop (span (view s)) table) z
-
-pub kept-slots : (v : View) (c table : List ℕ) (r : Refusal) → r ≡ slots_refusal v c (length table) → (r.number ≡ 0 → ⊥)
-    → table ≡ slots_in v c table
-unfolding slots_in
-kept-slots v c table r e z =
-    unless_bad (slots_refusal v c (length table)) r e table (table_of v (slot_at v.policy c) ++ drop (span v) table) z
+  pub made : (l : List ℕ) (n : ℕ) → Ok tt ≡ checked (slots_refusal (view s) c (length table)) → n ≡ span (view s)
+      → (n ≤ length table → l ≡ map (slot_at (view_of k).policy c) (from 0 n) ++ drop n table) → l ≡ slots_in (view s) c table
+  unfolding slots_in unless table_of
+  made l n e q f =
+      let room = room-good (view s) (length table) (length table) (passes (check_room (view s) (length table) (length table)) r) in
+      f (omega (arith, room.0, q))
+      ∙ rw (q, p.same) (sym (rw (passes (slots_refusal (view s) c (length table)) e) refl))

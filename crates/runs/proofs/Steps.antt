@@ -2,23 +2,22 @@
 --   overrun_is       == rule 1 over the columns is rule 1 of the policy that they spell out
 --   lent_slot        == over columns of 64 places, the pick of the lent lists is the policy's
 --   can_account      == whoever is picked can be accounted
---   step-hi, step-switch, step_lo   == the step in HI mode, at the switch, and in LO mode
+--   rule_1           == so it is over the view of columns
+--   stepped          == the pick of that mode's order, accounted, is the step
 -- Assumes nothing.
+use Rattle.std.specs.Prelude.{Some as Job, None as Idle, Option}
 use Prim.Native.Nat.{ℕ, suc, ◌≤◌}
 use mathlib.Core.Path.{◌≡◌, refl, sym, ◌∙◌, ap}
-use mathlib.Core.Bool.{Bool, true, false, cond, not, ◌&&◌}
+use mathlib.Core.Bool.{Bool, true, false, not, ◌&&◌}
 use mathlib.Core.List.{List}
 use native.Mathlib.Omega.{arith}
 use lib.Dec.{eqb, leb}
-use lib.ListN.{length}
+use lib.ListN.{length, take}
 use borrow.Author.Tests.{eqb-true, eqb-false, not-true, le-leb}
 use Rattle.model.specs.declared.Level.{Level}
-use Rattle.model.specs.declared.Level.TheVariants.{Lo, Hi}
-use Rattle.model.specs.declared.Pick.{Pick}
-use Rattle.model.specs.declared.Pick.TheVariants.{Job, Idle}
 use Rattle.model.specs.declared.State.{State}
 use Rattle.model.specs.Lists.{at, numbers, any, first}
-use Rattle.model.specs.Sets.{is_hi, members, critical}
+use Rattle.model.specs.Sets.{members, critical}
 use Rattle.model.specs.Runs.{overruns, mode_now, ready, pick, slot_now}
 use Rattle.model.specs.Answers.{picked, lent_pick}
 use Rattle.laws.proofs.Bools.{tests, split, and_l, and_r, and_i, and_no_r, not_i_false, same}
@@ -26,7 +25,8 @@ use Rattle.laws.proofs.Lists.{any_e, any_i, first_some, first_cong}
 use Rattle.laws.proofs.Sums.{from-mem, mem-from}
 use Rattle.laws.proofs.Places.{at_place, place, members_i, members_e, cond-hi}
 use Rattle.runs.specs.declared.engine.Progress.{Progress}
-use Rattle.columns.specs.Columns.{by_mode, listed}
+use Rattle.columns.specs.declared.Columns.{Columns}
+use Rattle.columns.specs.Columns.{listed, view_of}
 use Rattle.runs.specs.Engine.{any_overrun, slot_of, Accountable, Steppable, accounted, next}
 use Rattle.runs.proofs.Overruns.{over}
 
@@ -65,18 +65,14 @@ module _ (o a : List ℕ) (d : List Bool) (t : ℕ) where
       let r : f (first f o) ≡ true = (first_some f o p.1).1 in
       rw p.0 at (place d (first f o) (not-true (at d (first f o) true) (and_r (leb (at a (first f o) (suc t)) t) (not (at d (first f o) true)) r)))
 
-pub can_account : (n : ℕ) (a : List ℕ) (k : List Bool) (l c : List ℕ) (t : ℕ) (g : Progress) (o : List ℕ) (r : Pick)
-    → Steppable n a k l c t g → r ≡ lent_pick o a g.state.done t → Accountable g r c t
-can_account n a k l c t g o r s e =
+pub can_account : (a : List ℕ) (t : ℕ) (g : Progress) (o : List ℕ) (r : Option ℕ)
+    → length g.state.done ≡ 64 → Steppable g t → r ≡ lent_pick o a g.state.done t → Accountable g r t
+can_account a t g o r n s e =
     record {
-      had = s.had;
-      done = s.done;
-      finishes = s.finishes;
-      times = s.times;
       instant = s.instant;
       place = λ j h.
           let p = picked-place o a g.state.done t j (sym e ∙ h) in
-          (p.0, omega (arith, p.1, s.done), omega (arith, s.slots j, s.instant));
+          (p.0, omega (arith, p.1, n), omega (arith, s.slots j, s.instant));
     }
 
 -- the step ----------------------------------------------------------------------------------------------------------------------------
@@ -107,29 +103,14 @@ module _ (n : ℕ) (a : List ℕ) (k : List Bool) (l lo hi : List ℕ) where
       (and_i (le-leb 1 r.0 (omega arith)) (le-leb r.0 n (omega arith))))
       (overruns-over s r.0 ∙ r.2))
 
-  module _ (c : List ℕ) (t : ℕ) (g : Progress) (s : Steppable n a k l c t g) (r : Pick) (x : Progress) where
-    stepped : (m : Level) → mode_now (listed n a k l lo hi) g.state ≡ m → r ≡ lent_pick (by_mode lo hi m) a g.state.done t
-        → x ≡ accounted c t (slot_of r) m g → x ≡ next (listed n a k l lo hi) c t g
-    unfolding next slot_now listed
-    stepped m e p q =
-        rw e (q ∙ ap (λ j. accounted c t j m g) (ap slot_of p ∙ lent_slot (by_mode lo hi m) a g.state.done t s.arrivals s.done))
+pub rule_1 : (k : Columns) (n : k.n ≤ 64) (s : State)
+    → any (overruns (view_of k).policy s) (members (view_of k).policy) ≡ any_overrun k.n k.critical k.lo s.had s.done
+unfolding view_of
+rule_1 k n s = overrun_is k.n k.arrivals k.critical k.lo (take k.n k.lo_order) (take k.m k.hi_order) s n
 
-    pub step-hi : g.state.mode ≡ Hi → r ≡ lent_pick hi a g.state.done t → x ≡ accounted c t (slot_of r) Hi g
-        → x ≡ next (listed n a k l lo hi) c t g
-    unfolding by_mode mode_now is_hi
-    step-hi e p q = stepped Hi (rw e refl) p q
-
-    module _ (b : Bool) (is : b ≡ any_overrun n k l g.state.had g.state.done) (e : g.state.mode ≡ Lo) where
-      mode_is : mode_now (listed n a k l lo hi) g.state ≡ cond b Hi Lo
-      unfolding mode_now is_hi
-      mode_is = rw (overrun_is g.state s.count, is, e) refl
-
-      pub step-switch : b ≡ true → r ≡ lent_pick hi a g.state.done t → x ≡ accounted c t (slot_of r) Hi g
-          → x ≡ next (listed n a k l lo hi) c t g
-      unfolding by_mode
-      step-switch f p q = stepped Hi (mode_is ∙ rw f refl) p q
-
-      pub step_lo : b ≡ false → r ≡ lent_pick lo a g.state.done t → x ≡ accounted c t (slot_of r) Lo g
-          → x ≡ next (listed n a k l lo hi) c t g
-      unfolding by_mode
-      step_lo f p q = stepped Lo (mode_is ∙ rw f refl) p q
+pub stepped : (k : Columns) (c : List ℕ) (t : ℕ) (g : Progress) (m : Level) (o : List ℕ) (r : Option ℕ) (x : Progress)
+    → length k.arrivals ≡ 64 → length g.state.done ≡ 64 → m ≡ mode_now (view_of k).policy g.state → o ≡ (view_of k).policy.order m
+    → r ≡ lent_pick o k.arrivals g.state.done t → x ≡ accounted c t (slot_of r) m g → x ≡ next (view_of k).policy c t g
+unfolding next slot_now view_of listed
+stepped k c t g m o r x a d e f p q =
+    q ∙ ap (λ j. accounted c t j m g) (ap slot_of p ∙ lent_slot o k.arrivals g.state.done t a d) ∙ rw (f, e) refl

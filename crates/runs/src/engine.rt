@@ -1,176 +1,131 @@
 // The engine: one step of a run, and the run to the span. Every run of the analysis, and the LO table, goes by this step.
-ghost use Rattle.std.specs.Prelude.{◌≡◌, ◌≤◌, length};
-ghost use Rattle.model.specs.Sets.{span as span_of};
-ghost use Rattle.columns.specs.Columns.{listed, view_of};
-ghost use Rattle.runs.specs.Engine.{any_overrun, slot_of, Accountable, switched, accounted, Steppable, next, start_of, Runnable, run_of};
+ghost use Rattle.std.specs.Prelude.{◌≡◌, ◌<◌, ◌≤◌, ◌++◌, drop, length, map};
+ghost use Rattle.model.specs.Lists.{at, from};
+ghost use Rattle.model.specs.Runs.{mode_now, slot_at};
+ghost use Rattle.columns.specs.Columns.{view_of};
+ghost use Rattle.runs.specs.Engine.{any_overrun, slot_of, Accountable, given, accounted, Steppable, next, start_of, progress_at};
 
 use columns::Columns;
 use measures::outruns;
-use model::{GOOD, Level, Pick, Ran, Refusal, State, Switch};
+use model::{Level, State};
 use picks::pick;
 
-// How far a run has come: its state, who got the last slot, the switch so far, and the finishes so far, 0 where there is none.
+// How far a run has come: its state, who got the last slot, the switch so far, and the finishes so far. The slot is a table's entry, "0 for idle,
+// else a job number", and the finishes are the answer's, 0 where there is none.
 #[derive(Clone, Copy)]
 pub struct Progress {
     pub state: State,
     pub slot: u16,
-    pub switch: Switch,
+    pub switch: Option<u16>,
     pub finishes: [u16; 64],
 }
 
-// Whether a HI job has had exactly its LO budget and is not done.
-fn overrun(n: usize, critical: &[bool], lo: &[u16], had: &[u16], done: &[bool]) -> bool
-    requires { (n ≤ 64) × (length critical.now ≡ 64) × (length lo.now ≡ 64) × (length had.now ≡ 64) × (length done.now ≡ 64) }
-    ensures { result ≡ any_overrun n critical.now lo.now had.now done.now }
-{
-    let mut i: usize = 0;
-    while i < n {
-        if outruns(critical[i], had[i], lo[i], done[i]) {
-            return true;
+impl Progress {
+    // Before slot 0: jobs 1 to n are done where they have nothing to do, and no other number names a job.
+    fn start(n: usize, times: &[u16; 64]) -> Progress
+        ensures { result ≡ start_of n times.now }
+    {
+        let mut done = [true; 64];
+        for (i, time) in times.iter().enumerate() {
+            done[i] = n <= i || *time == 0;
         }
-        i += 1;
-    }
-    false
-}
-
-// The switch, where the mode at instant t is the one given.
-fn switched_at(switch: Switch, mode: Level, t: u16) -> Switch
-    ensures { result ≡ switched switch mode t }
-{
-    match switch {
-        Switch::At(u) => Switch::At(u),
-        Switch::Never => match mode {
-            Level::Lo => Switch::Never,
-            Level::Hi => Switch::At(t),
-        },
-    }
-}
-
-// The progress after slot t of the job picked, in the mode given.
-fn account(g: Progress, k: Pick, mode: Level, times: &[u16], t: u16) -> Progress
-    requires { Accountable g k times.now t }
-    ensures { result ≡ accounted times.now t (slot_of k) mode g }
-{
-    let state = g.state;
-    let mut had = state.had;
-    let mut done = state.done;
-    let mut finishes = g.finishes;
-    let before = g.switch;
-    let switch = switched_at(before, mode, t);
-    match k {
-        Pick::Idle => Progress {
-            state: State { mode, had, done },
+        Progress {
+            state: State {
+                mode: Level::Lo,
+                had: [0u16; 64],
+                done,
+            },
             slot: 0,
-            switch,
-            finishes,
-        },
-        Pick::Job(j) => {
-            let i = j as usize - 1;
-            let h = had[i] + 1;
-            had[i] = h;
-            if h == times[i] {
-                done[i] = true;
-                finishes[i] = t + 1;
-            } else {
-                done[i] = false;
-            }
-            Progress {
-                state: State { mode, had, done },
-                slot: j,
-                switch,
-                finishes,
-            }
+            switch: None,
+            finishes: [0u16; 64],
+        }
+    }
+
+    // Accounts slot t, of the job picked, in the mode given.
+    #[tactic(auto, unfolding(crate::specs::Engine::accounted, crate::specs::Engine::given, crate::specs::Engine::slot_of, crate::specs::Engine::switched, crate::specs::Engine::noted, model::specs::Runs::account))]
+    fn account(&mut self, job: Option<u16>, mode: Level, times: &[u16; 64], t: u16)
+        requires { Accountable self.old job t }
+        ensures { self.new ≡ accounted times.now t (slot_of job) mode self.old }
+    {
+        self.state.mode = mode;
+        self.slot = job.unwrap_or(0);
+        self.switch = self.switch.or((mode == Level::Hi).then_some(t));
+        if let Some(j) = job {
+            self.give(j, times, t);
+        }
+    }
+
+    // Gives job j the slot t.
+    #[tactic(auto, unfolding(crate::specs::Engine::given, crate::specs::Engine::noted, model::specs::Runs::account, model::specs::Runs::bump, model::specs::Runs::time, model::specs::Lists::at))]
+    fn give(&mut self, j: u16, times: &[u16; 64], t: u16)
+        requires { (t < 65535) × (1 ≤ j) × (j ≤ 64) × (at self.old.state.had j 0 < 65535) }
+        ensures { self.new ≡ given times.now t j self.old }
+    {
+        let i = usize::from(j) - 1;
+        let had = self.state.had[i] + 1;
+        let ended = had == times[i];
+        self.state.had[i] = had;
+        self.state.done[i] = ended;
+        if ended {
+            self.finishes[i] = t + 1;
         }
     }
 }
 
-// One slot of a run: rule 1, the pick in the present mode's order, and the account.
-pub fn step<'a>(
-    n: usize,
-    arrivals: &'a [u16],
-    critical: &'a [bool],
-    lo: &'a [u16],
-    lo_order: &'a [u16],
-    hi_order: &'a [u16],
-    times: &'a [u16],
-    t: u16,
-    g: Progress,
-) -> Progress
-    requires { Steppable n arrivals.now critical.now lo.now times.now t g }
-    ensures { result ≡ next (listed n arrivals.now critical.now lo.now lo_order.now hi_order.now) times.now t g }
-{
-    let state = g.state;
-    let mode = state.mode;
-    let had = state.had;
-    let done = state.done;
-    match mode {
-        Level::Hi => account(g, pick(hi_order, arrivals, &done, t), Level::Hi, times, t),
-        Level::Lo => {
-            if overrun(n, critical, lo, &had, &done) {
-                account(g, pick(hi_order, arrivals, &done, t), Level::Hi, times, t)
-            } else {
-                account(g, pick(lo_order, arrivals, &done, t), Level::Lo, times, t)
-            }
+// One run: the columns of a set of at most 64 jobs, and each job's running time.
+#[derive(Clone, Copy)]
+pub struct Run<'a> {
+    pub k: &'a Columns,
+    pub times: &'a [u16; 64],
+    ghost few: { k.now.n ≤ 64 },
+}
+
+impl Run<'_> {
+    // Whether a HI job has had exactly its LO budget and is not done.
+    fn overrun(&self, state: &State) -> bool
+        ensures { result ≡ any_overrun self.now.k.now.n self.now.k.now.critical self.now.k.now.lo state.now.had state.now.done }
+    {
+        let k = self.k;
+        let State { had, done, .. } = state;
+        (0..k.n).any(|i| outruns(k.critical[i], had[i], k.lo[i], done[i]))
+    }
+
+    // The mode of the slot at this state: rule 1 may switch it to HI.
+    #[tactic(auto, using(crate::proofs::Steps::rule_1), unfolding(model::specs::Runs::mode_now, model::specs::Sets::is_hi))]
+    fn mode_now(&self, state: &State) -> Level
+        ensures { result ≡ mode_now (view_of self.now.k.now).policy state.now }
+    {
+        if state.mode == Level::Lo && !self.overrun(state) {
+            Level::Lo
+        } else {
+            Level::Hi
         }
     }
-}
 
-// Before slot 0: jobs 1 to n are done where they have nothing to do, and no other number names a job.
-pub fn start(n: usize, times: &[u16]) -> Progress
-    requires { (n ≤ 64) × (length times.now ≡ 64) }
-    ensures { result ≡ start_of n times.now }
-{
-    let mut done = [true; 64];
-    let mut i: usize = 0;
-    while i < n {
-        done[i] = times[i] == 0;
-        i += 1;
+    // One slot: rule 1, the pick in the present mode's order, and the account.
+    #[tactic(auto, using(crate::proofs::Steps::stepped))]
+    fn step(&self, g: &mut Progress, t: u16)
+        requires { Steppable g.old t }
+        ensures { g.new ≡ next (view_of self.now.k.now).policy self.now.times.now t g.old }
+    {
+        let mode = self.mode_now(&g.state);
+        let job = pick(self.k.order(mode), &self.k.arrivals, &g.state.done, t);
+        g.account(job, mode, self.times, t);
     }
-    Progress {
-        state: State {
-            mode: Level::Lo,
-            had: [0u16; 64],
-            done,
-        },
-        slot: 0,
-        switch: Switch::Never,
-        finishes: [0u16; 64],
-    }
-}
 
-// The run with the times given, to the span.
-pub fn run_to(k: Columns, times: [u16; 64], span: u16) -> Ran
-    requires { Runnable k times × (span ≡ span_of (view_of k)) }
-    ensures { result ≡ run_of (view_of k) times }
-{
-    let n = k.n;
-    let m = k.m;
-    let lo_order = k.lo_order;
-    let hi_order = k.hi_order;
-    let mut g = start(n, &times);
-    let mut t: u16 = 0;
-    while t < span {
-        g = step(
-            n,
-            &k.arrivals,
-            &k.critical,
-            &k.lo,
-            &lo_order[..n],
-            &hi_order[..m],
-            &times,
-            t,
-            g,
-        );
-        t += 1;
-    }
-    let finishes = g.finishes;
-    let switch = g.switch;
-    Ran {
-        refusal: Refusal {
-            number: GOOD,
-            place: 0,
-        },
-        finishes,
-        switch,
+    // The run to the span. Who gets each slot is written into the table as far as it goes, which may be nowhere.
+    pub fn to_span(&self, span: u16, table: &mut [u16]) -> Progress
+        ensures run { result ≡ progress_at (view_of self.now.k.now).policy self.now.k.now.n self.now.times.now span }
+        ensures written { span ≤ length table.old → table.new ≡ map (slot_at (view_of self.now.k.now).policy self.now.times.now) (from 0 span) ++ drop span table.old }
+    {
+        let mut g = Progress::start(self.k.n, self.times);
+        for t in 0..span {
+            self.step(&mut g, t);
+            // by index: of what is written through `get_mut` a proof knows no element afterwards
+            if usize::from(t) < table.len() {
+                table[usize::from(t)] = g.slot;
+            }
+        }
+        g
     }
 }

@@ -1,23 +1,28 @@
 // Which running times a run may have.
-ghost use Rattle.std.specs.Prelude.{◌≡◌, length};
+ghost use Rattle.std.specs.Prelude.{◌≡◌};
+ghost use Rattle.model.specs.Refusals.{checked, check_run};
 ghost use Rattle.columns.specs.Columns.{view_of, Testable};
-ghost use Rattle.runs.specs.Ranges.{outside};
 
-use columns::Columns;
+use crate::engine::Run;
 use measures::in_range;
+use model::{RUN, Refusal};
 
-// The lowest job whose running time lies outside its range, 0 where there is none.
-pub fn out_of_range(k: Columns, times: [u16; 64]) -> usize
-    requires { Testable k × (length times ≡ 64) }
-    ensures { result ≡ outside (view_of k) times }
-{
-    let n = k.n;
-    let mut i: usize = 0;
-    while i < n {
-        if !in_range(k.critical[i], k.lo[i], k.hi[i], times[i]) {
-            return i + 1;
+impl Run<'_> {
+    // Refuses, by 9, the lowest job whose running time lies outside its range.
+    pub fn in_range(&self) -> Result<(), Refusal>
+        requires { Testable self.now.k.now }
+        ensures { result ≡ checked (check_run (view_of self.now.k.now) self.now.times.now) }
+    {
+        let k = self.k;
+        // over the numbers: a job's level, budgets and time stand in four arrays
+        for i in 0..k.n {
+            if !in_range(k.critical[i], k.lo[i], k.hi[i], self.times[i]) {
+                return Err(Refusal {
+                    number: RUN,
+                    place: i as u64 + 1,
+                });
+            }
         }
-        i += 1;
+        Ok(())
     }
-    0
 }

@@ -4,123 +4,77 @@
 // the end of a dropped one; `switch` and its instant, or `never`; and `slots`, who gets each slot, 0 for idle.
 #![tactic(auto)]
 
-ghost use Rattle.std.specs.Prelude.{◌≡◌, length};
-
 mod input;
 
 use analysis::{execute, judge, slots};
-use answer_text::{bytes, list, number};
+use answer_text::{List, Switch};
 use checks::span_of;
 use columns::columns_of;
 use input::{text_in, times_in};
 use input_bytes::read_full;
-use model::{GOOD, Refusal, Set, Switch};
+use model::{Refusal, Set};
 use plan_text::read;
 use std::io;
 use std::io::Write;
 
-// Room for the times and the longest text that is read.
-fn room() -> [u8; 4224]
-    ensures { 4224 ≡ length result }
-{
-    [0u8; 4224]
-}
-
 fn main(rt: HostRuntime) -> io::Result<()> {
-    let mut input = room();
-    let n = read_full(&mut rt.stdin(), &mut input)?;
-    show(&mut io::writer(&rt), &input[..n])
+    // room for the times and the longest text that is read
+    let mut room = [0; 4224];
+    let n = read_full(&mut rt.stdin(), &mut room)?;
+    show(&mut io::writer(&rt), &room[..n])
 }
 
-// Whether no time is given.
-fn none(times: [u16; 64]) -> bool {
-    let mut i: usize = 0;
-    while i < 64 {
-        if times[i] != 0 {
-            return false;
-        }
-        i += 1;
-    }
-    true
+// Whether any time is given.
+fn is_given(times: &[u16; 64]) -> bool {
+    times.iter().any(|time| *time != 0)
 }
 
 // The times of the run that is shown.
-fn times_of(s: Set, given: [u16; 64]) -> [u16; 64] {
-    if !none(given) {
+fn times_of(set: &Set, given: [u16; 64]) -> [u16; 64] {
+    if is_given(&given) {
         return given;
     }
-    let j = judge(s);
-    let failing = j.times;
-    if !none(failing) {
+    let failing = judge(*set).times;
+    if is_given(&failing) {
         return failing;
     }
-    let k = columns_of(s);
-    let lo = k.lo;
-    lo
+    columns_of(*set).lo
 }
 
-// The first entries of a list, or all of it where it has fewer.
-fn front(values: &[u16], n: usize) -> &[u16] {
-    if values.len() < n {
-        return values;
-    }
-    &values[0..n]
-}
-
-// A line: a word, and the first numbers of a list.
-fn line<W: Write>(out: &mut W, word: &[u8], values: &[u16], n: usize) -> io::Result<()> {
-    bytes(out, word)?;
-    list(out, front(values, n))?;
-    bytes(out, b"\n")
-}
-
-// The line of the switch.
-fn switch_line<W: Write>(out: &mut W, x: Switch) -> io::Result<()> {
-    bytes(out, b"switch")?;
-    match x {
-        Switch::Never => bytes(out, b" never")?,
-        Switch::At(t) => number(out, t as u64)?,
-    }
-    bytes(out, b"\n")
+// The first n numbers of a list, or all of it where it has fewer.
+fn first_of(values: &[u16], n: usize) -> List<'_, u16> {
+    List(values.get(..n).unwrap_or(values))
 }
 
 // The line of a refusal.
-fn refused<W: Write>(out: &mut W, r: Refusal) -> io::Result<()> {
-    bytes(out, b"REFUSED")?;
-    number(out, r.number as u64)?;
-    number(out, r.place)?;
-    bytes(out, b"\n")
+fn show_refusal<W: Write>(out: &mut W, refusal: Refusal) -> io::Result<()> {
+    writeln!(out, "REFUSED {} {}", refusal.number, refusal.place)
 }
 
 // The lines of a run that is not refused, with its slots.
-fn show_lines<W: Write>(out: &mut W, s: Set, times: [u16; 64], table: &[u16]) -> io::Result<()> {
-    let r = execute(s, times);
-    let ends = r.finishes;
-    let switch = r.switch;
-    line(out, b"times", &times, s.count)?;
-    line(out, b"ends", &ends, s.count)?;
-    switch_line(out, switch)?;
-    line(out, b"slots", table, span_of(s) as usize)
+fn show_run<W: Write>(out: &mut W, set: &Set, times: &[u16; 64], table: &[u16]) -> io::Result<()> {
+    let ran = execute(*set, *times);
+    writeln!(out, "times{}", first_of(times, set.count))?;
+    writeln!(out, "ends{}", first_of(&ran.finishes, set.count))?;
+    writeln!(out, "switch {}", Switch(ran.switch))?;
+    writeln!(out, "slots{}", first_of(table, span_of(*set) as usize))
 }
 
 // The answer for a set, with the times given.
-fn show_set<W: Write>(out: &mut W, s: Set, given: [u16; 64]) -> io::Result<()> {
-    let times = times_of(s, given);
-    let mut table = [0u16; 4096];
-    let refusal = slots(s, times, &mut table);
-    if refusal.number != GOOD {
-        return refused(out, refusal);
+fn show_set<W: Write>(out: &mut W, set: &Set, given: [u16; 64]) -> io::Result<()> {
+    let times = times_of(set, given);
+    let mut table = [0; 4096];
+    match slots(*set, times, &mut table).check() {
+        Ok(()) => show_run(out, set, &times, &table),
+        Err(refusal) => show_refusal(out, refusal),
     }
-    show_lines(out, s, times, &table)
 }
 
 // The answer for an input.
 fn show<W: Write>(out: &mut W, input: &[u8]) -> io::Result<()> {
-    let q = read(text_in(input));
-    let refusal = q.refusal;
-    if refusal.number != GOOD {
-        return refused(out, refusal);
+    let reading = read(text_in(input));
+    match reading.refusal.check() {
+        Ok(()) => show_set(out, &reading.set, times_in(input)),
+        Err(refusal) => show_refusal(out, refusal),
     }
-    let s = q.set;
-    show_set(out, s, times_in(input))
 }

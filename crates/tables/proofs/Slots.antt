@@ -1,22 +1,24 @@
 -- The slots of the two tables over the columns, and the slots that each job has had in them.
---   enabled_is        == who is enabled, by what the lists hold
---   Left, left-..     == the first that passes a test, an entry at a time
+--   first_found       == the first that passes a test, as `find` has it
 --   counted-..        == one slot more for a job
 --   counts            == after t slots the places are still 64, and none has had more than t
 --   lo_had v t        == the slots had before t in the LO table;  lo-read: its slot t, read from what a maker left
 --   hi_pick_is        == the first enabled job over the columns is the HI table's slot
 -- Assumes nothing.
-use Prim.Native.Nat.{ℕ, zero, suc, ◌+◌, ◌-◌, ◌≤◌, ◌<◌}
-use mathlib.Core.Path.{◌≡◌, refl, sym, ◌∙◌, ap}
-use mathlib.Core.Bool.{Bool, true, false}
-use mathlib.Core.List.{List}
+use Rattle.std.specs.Prelude.{Option, None, Some}
+use Rattle.std.specs.Option.{option_map, unwrap_or}
+use Rattle.std.specs.List.{find}
+use Prim.Native.Nat.{ℕ, zero, suc, ◌-◌, ◌≤◌, ◌<◌}
+use mathlib.Core.Path.{◌≡◌, refl, ◌∙◌, ap}
+use mathlib.Core.Bool.{Bool}
+use mathlib.Core.List.{List, [], ◌∷◌}
 use native.Mathlib.Omega.{arith}
-use native.Mathlib.Numerals.{add-one}
 use lib.Dec.{eqb, leb}
-use lib.ListN.{length, get_or, drop, set, take, length-set, length-replicate, replicate, drop_of_length-le}
-use lib.Seq.{drop-cons, set_out, get_or-take}
-use borrow.Author.Tests.{ne_eqb, eqb-true, eqb-false}
+use lib.ListN.{length, get_or, length-set, length-replicate, replicate}
+use lib.Seq.{set_out}
+use borrow.Author.Tests.{eqb-true, eqb-false}
 use Rattle.model.specs.declared.Level.{Level}
+use Rattle.model.specs.declared.Level.TheVariants.{Hi}
 use Rattle.model.specs.declared.State.{State}
 use Rattle.model.specs.Lists.{at, first}
 use Rattle.model.specs.Sets.{View, span}
@@ -25,35 +27,25 @@ use Rattle.model.specs.Scenarios.{lo_times, zeros}
 use Rattle.model.specs.Tables.{table_of, lo_table, lo_slot, enabled, hi_pick, hi_had_at, hi_slot}
 use Rattle.laws.proofs.Bools.{tests, split}
 use Rattle.laws.proofs.Sums.{get_or-from}
-use Rattle.laws.proofs.Places.{at_in, at_set}
+use Rattle.laws.proofs.Places.{at_set}
 use Rattle.measures.specs.Measures.{enabled_by}
 use Rattle.columns.specs.declared.Columns.{Columns}
 use Rattle.columns.specs.Columns.{listed, by_mode, view_of}
 use Rattle.tables.specs.Slots.{enabled_in, chosen, counted}
 
--- who is enabled, by what the lists hold
-pub enabled_is : (had lo_had lo hi : List ℕ) (slot j h l a b : ℕ) (r : Bool) → h ≡ at had j 0 → l ≡ at lo_had j 0 → a ≡ at lo j 0 → b ≡ at hi j 0
-    → r ≡ enabled_by h l a b (eqb slot j) → r ≡ enabled_in had lo_had lo hi slot j
-unfolding enabled_in
-enabled_is had lo_had lo hi slot j h l a b r e f g i x = x ∙ rw (e, f, g, i) refl
+-- the pick, as the code finds it -------------------------------------------------------------------------------------------------------
 
--- the pick, an entry at a time -------------------------------------------------------------------------------------------------------
+by_id : (o : Option ℕ) → unwrap_or o 0 ≡ unwrap_or (option_map (λ x. x) o) 0
+by_id None = refl
+by_id (Some x) = refl
 
-abbrev pub Left : (ℕ → Bool) → List ℕ → ℕ → Type 0
-Left test l i = first test l ≡ first test (drop i l)
+found_first : (test : ℕ → Bool) (l : List ℕ) → unwrap_or (find test l) 0 ≡ first test l
+unfolding first
+found_first test [] = refl
+found_first test (x ∷ l) = split (test x) (λ t. rw t refl) (λ f. rw f (found_first test l))
 
-module _ (test : ℕ → Bool) (l : List ℕ) (i : ℕ) where
-  pub left_found : i < length l → Left test l i → test (get_or l i 0) ≡ true → get_or l i 0 ≡ first test l
-  unfolding first
-  left_found h e r = sym (e ∙ rw (drop-cons l i 0 h) (rw r refl))
-
-  pub left_next : i < length l → Left test l i → test (get_or l i 0) ≡ false → Left test l (i + 1)
-  unfolding first
-  left_next h e r = e ∙ rw (drop-cons l i 0 h) (rw (r, add-one) refl)
-
-  pub left_none : length l ≤ i → Left test l i → 0 ≡ first test l
-  unfolding first
-  left_none h e = rw (e, drop_of_length-le l h) refl
+pub first_found : (test : ℕ → Bool) (l : List ℕ) (r : Option ℕ) → option_map (λ x. x) r ≡ find test l → unwrap_or r 0 ≡ first test l
+first_found test l r e = by_id r ∙ ap (λ o. unwrap_or o 0) e ∙ found_first test l
 
 -- slots had --------------------------------------------------------------------------------------------------------------------------
 
@@ -62,18 +54,6 @@ unfolding at
 at_zero l j n e = rw e (omega arith)
 
 module _ (l : List ℕ) (j : ℕ) where
-  pub counted_zero : j ≡ 0 → l ≡ counted l j
-  unfolding counted
-  counted_zero e = rw e refl
-
-  pub counted_out : length l < j → l ≡ counted l j
-  unfolding counted bump
-  counted_out h = rw (ne_eqb j 0 (omega arith)) (sym (set_out l (j - 1) (suc (at l j 0)) (omega arith)))
-
-  pub counted_in : 1 ≤ j → set l (j - 1) (get_or l (j - 1) 0 + 1) ≡ counted l j
-  unfolding counted bump
-  counted_in h = rw (ne_eqb j 0 (omega arith), at_in l j 0 h, add-one) refl
-
   pub counted-length : length (counted l j) ≡ length l
   unfolding counted bump
   counted-length = split (eqb j 0) (λ e. rw e refl) (λ e. rw e (length-set l (j - 1) (suc (at l j 0))))
@@ -142,13 +122,12 @@ module _ (v : View) where
   pub hi-counts : (t : ℕ) → (length (hi_had_at v t) ≡ 64) × ((j : ℕ) → at (hi_had_at v t) j 0 ≤ t)
   hi-counts t = counts (hi_had_at v) (hi_slot v) hi-start hi-next t
 
-  pub lo-read : (l : List ℕ) (t : ℕ) → take (span v) l ≡ lo_table v → t < span v → get_or l t 0 ≡ lo_slot v t
+  pub lo-read : (l : List ℕ) (t : ℕ) → l ≡ lo_table v → t < span v → get_or l t 0 ≡ lo_slot v t
   unfolding lo_table table_of
-  lo-read l t e h =
-      sym (get_or-take (span v) l t 0 h) ∙ ap (λ r. get_or r t 0) e ∙ get_or-from (lo_slot v) 0 (span v) t 0 h ∙ ap (lo_slot v) (omega arith)
+  lo-read l t e h = ap (λ r. get_or r t 0) e ∙ get_or-from (lo_slot v) 0 (span v) t 0 h ∙ ap (lo_slot v) (omega arith)
 
 pub hi_pick_is : (k : Columns) (t : ℕ)
-    → chosen (take k.m k.hi_order) (hi_had_at (view_of k) t) (lo_had (view_of k) t) k.lo k.hi (lo_slot (view_of k) t)
+    → chosen ((view_of k).policy.order Hi) (hi_had_at (view_of k) t) (lo_had (view_of k) t) k.lo k.hi (lo_slot (view_of k) t)
     ≡ hi_slot (view_of k) t
 unfolding chosen enabled_in enabled_by hi_slot hi_pick enabled had_at view_of listed by_mode
 hi_pick_is k t = refl

@@ -1,107 +1,91 @@
 // The HI table, made from the LO table into lent room by rules (a), (b) and (c).
-ghost use Rattle.std.specs.Prelude.{◌≡◌, ◌++◌, ◌<◌, drop, length, take};
+ghost use Rattle.std.specs.Prelude.{◌≡◌, ◌++◌, ◌<◌, ◌≤◌, drop, length, take};
+ghost use Rattle.model.specs.declared.Level.TheVariants.{Hi};
 ghost use Rattle.model.specs.Lists.{at};
 ghost use Rattle.model.specs.Sets.{span as span_of};
 ghost use Rattle.model.specs.Tables.{lo_table, hi_table};
 ghost use Rattle.columns.specs.Columns.{view_of};
-ghost use Rattle.runs.specs.Room.{Fillable};
 ghost use Rattle.tables.specs.Slots.{enabled_in, chosen, counted};
 
 use columns::Columns;
 use measures::is_enabled;
+use model::Level;
+
+// The slots that each job has had in either table.
+#[derive(Clone, Copy)]
+struct Had {
+    lo: [u16; 64],
+    hi: [u16; 64],
+}
+
+impl Had {
+    // Whether a number names a HI job that is enabled, where the LO table runs job `slot`.
+    #[tactic(auto, unfolding(crate::specs::Slots::enabled_in))]
+    fn enables(&self, k: &Columns, slot: u16, j: u16) -> bool
+        ensures { result ≡ enabled_in self.now.hi self.now.lo k.now.lo k.now.hi slot j }
+    {
+        is_enabled(
+            entry(&self.hi, j),
+            entry(&self.lo, j),
+            entry(&k.lo, j),
+            entry(&k.hi, j),
+            slot == j,
+        )
+    }
+
+    // The HI table's entry, where the LO table runs job `slot`: the first enabled job of the HI order, 0 for idle. An entry of the order that names no
+    // job is passed over.
+    fn pick(&self, k: &Columns, slot: u16) -> u16
+        ensures { result ≡ chosen ((view_of k.now).policy.order Hi) self.now.hi self.now.lo k.now.lo k.now.hi slot }
+    {
+        k.order(Level::Hi)
+            .iter()
+            .copied()
+            .find(|j| self.enables(k, slot, *j))
+            .unwrap_or(0)
+    }
+}
 
 // What a list holds for job j, 0 where it has no place for it.
+#[tactic(auto, unfolding(model::specs::Lists::at))]
 fn entry(list: &[u16], j: u16) -> u16
     ensures { result ≡ at list.now j 0 }
 {
-    let k = j as usize;
-    if k == 0 {
+    let Some(i) = usize::from(j).checked_sub(1) else {
         return 0;
-    }
-    if list.len() < k {
-        return 0;
-    }
-    list[k - 1]
+    };
+    list.get(i).copied().unwrap_or(0)
 }
 
-// Whether a number names a HI job that is enabled, by the slots had in both tables and the budgets of all jobs, where the LO table runs
-// job `slot`.
-fn enables<'a>(
-    had: &'a [u16],
-    lo_had: &'a [u16],
-    lo: &'a [u16],
-    hi: &'a [u16],
-    slot: u16,
-    j: u16,
-) -> bool
-    ensures { result ≡ enabled_in had.now lo_had.now lo.now hi.now slot j }
+// Counts one slot more for job j. A number that names no place changes nothing.
+#[tactic(auto, unfolding(crate::specs::Slots::counted, model::specs::Runs::bump, model::specs::Lists::at))]
+fn count(had: &mut [u16; 64], j: u16)
+    requires { at had.old j 0 < 65535 }
+    ensures { had.new ≡ counted had.old j }
 {
-    is_enabled(
-        entry(had, j),
-        entry(lo_had, j),
-        entry(lo, j),
-        entry(hi, j),
-        slot == j,
-    )
-}
-
-// The first enabled job of an order, 0 where there is none. An entry that names no job is passed over.
-fn hi_pick<'a>(
-    order: &'a [u16],
-    had: &'a [u16],
-    lo_had: &'a [u16],
-    lo: &'a [u16],
-    hi: &'a [u16],
-    slot: u16,
-) -> u16
-    ensures { result ≡ chosen order.now had.now lo_had.now lo.now hi.now slot }
-{
-    let mut i: usize = 0;
-    while i < order.len() {
-        let j = order[i];
-        if enables(had, lo_had, lo, hi, slot, j) {
-            return j;
-        }
-        i += 1;
+    let k = usize::from(j);
+    // by index: of what is written through `get_mut` a proof knows no element afterwards
+    if 0 < k && k <= had.len() {
+        had[k - 1] += 1;
     }
-    0
-}
-
-// The slots had, with one more for job j. A number that names no place changes nothing.
-fn count(had: [u16; 64], j: u16) -> [u16; 64]
-    requires { (length had ≡ 64) × (at had j 0 < 65535) }
-    ensures { result ≡ counted had j }
-{
-    let k = j as usize;
-    if k == 0 {
-        return had;
-    }
-    if 64 < k {
-        return had;
-    }
-    let mut more = had;
-    more[k - 1] = had[k - 1] + 1;
-    more
 }
 
 // Makes the HI table from the LO table.
-pub fn hi_table(k: Columns, span: usize, lo: &[u16], table: &mut [u16])
-    requires { Fillable k span table.old × (take (span_of (view_of k)) lo.now ≡ lo_table (view_of k)) }
-    ensures { table.new ≡ hi_table (view_of k) ++ drop (span_of (view_of k)) table.old }
+pub fn hi_table(k: &Columns, span: usize, lo: &[u16], table: &mut [u16])
+    requires span { span ≡ span_of (view_of k.now) }
+    requires bound { span ≤ 4096 }
+    requires room { span ≤ length table.old }
+    requires lo { take span lo.now ≡ lo_table (view_of k.now) }
+    ensures { table.new ≡ hi_table (view_of k.now) ++ drop span table.old }
 {
-    let m = k.m;
-    let hi_order = k.hi_order;
-    let mut lo_had = [0u16; 64];
-    let mut had = [0u16; 64];
-    let mut t: usize = 0;
-    while t < span {
-        let slot = lo[t];
-        let j = hi_pick(&hi_order[..m], &had, &lo_had, &k.lo, &k.hi, slot);
+    let mut had = Had {
+        lo: [0u16; 64],
+        hi: [0u16; 64],
+    };
+    for (t, slot) in lo[..span].iter().enumerate() {
+        let j = had.pick(k, *slot);
         table[t] = j;
-        let lo_more = count(lo_had, slot);
-        lo_had = lo_more;
-        let more = count(had, j);
-        had = more;
-        t += 1;
+        count(&mut had.lo, *slot);
+        count(&mut had.hi, j);
     }
 }

@@ -5,6 +5,7 @@
 --   runs_meet        == so each run of it meets what it requires
 --   meet_fit         == a set whose every run does is fit
 -- Assumes nothing.
+use Rattle.std.specs.Prelude.{None as Never, Some as At, Option}
 use Prim.Native.Nat.{ℕ, ◌≤◌, ◌<◌}
 use mathlib.Core.Path.{◌≡◌, refl, sym, ◌∙◌, ap, subst}
 use mathlib.Core.Bool.{true, false}
@@ -14,8 +15,6 @@ use native.Mathlib.Omega.{arith}
 use lib.Dec.{leb, ltb}
 use Rattle.model.specs.declared.Scenario.{Scenario}
 use Rattle.model.specs.declared.Scenario.TheVariants.{Lo, Hi}
-use Rattle.model.specs.declared.Switch.{Switch}
-use Rattle.model.specs.declared.Switch.TheVariants.{Never, At}
 use Rattle.model.specs.declared.Verdict.TheVariants.{Fit}
 use Rattle.model.specs.Sets.{View, is_hi, critical, span}
 use Rattle.model.specs.Runs.{time, mode_at, had_at, finish_of, switch_in, required, required_after, meets, is_run}
@@ -44,7 +43,7 @@ pub required-hi : (v : View) (c : List ℕ) (j : ℕ) → critical v.policy j �
 unfolding required required_after
 required-hi v c j k = by-switch (switch_in v c)
   where
-    by-switch : (x : Switch) → required_after v.policy j x ≡ true
+    by-switch : (x : Option ℕ) → required_after v.policy j x ≡ true
     by-switch Never = refl
     by-switch (At t) = k
 
@@ -124,7 +123,7 @@ module _ (v : View) (s : Sound v) (fit : verdict v ≡ Fit) where
         ⊎_elim
         (λ (x, lo). in_bound_lo i a lo)
         (λ (τ, x).
-        in_bound_hi i τ a (subst (λ (y : Switch). required_after w.policy i y ≡ true) x.0 q) x.2 x.3)
+        in_bound_hi i τ a (subst (λ (y : Option ℕ). required_after w.policy i y ≡ true) x.0 q) x.2 x.3)
         (switches w ow b c r)
 
     pub runs_meet : Bounded w → Times w c → meets w c ≡ true

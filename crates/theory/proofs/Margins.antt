@@ -8,6 +8,7 @@
 --   margin-range     == it lies between -4,095 and 65,534
 --   fit_margins      == a set is fit exactly if no margin is negative
 -- Assumes nothing.
+use Rattle.std.specs.Prelude.{Some as At}
 use Prim.Native.Nat.{ℕ, ◌+◌, ◌-◌, ◌≤◌, max}
 use mathlib.Core.Path.{◌≡◌, refl, sym, ◌∙◌, ap, subst}
 use mathlib.Core.Bool.{true, false, not, ◌&&◌, ◌||◌}
@@ -20,7 +21,6 @@ use lib.ListN.{get_or-replicate}
 use borrow.Author.Tests.{ltb-true, lt-ltb, le-ltb, eqb-true, not-false}
 use Rattle.model.specs.declared.Scenario.{Scenario}
 use Rattle.model.specs.declared.Scenario.TheVariants.{Lo, Hi}
-use Rattle.model.specs.declared.Switch.TheVariants.{At}
 use Rattle.model.specs.declared.Verdict.TheVariants.{Fit}
 use Rattle.model.specs.Lists.{at, numbers, mem, largest}
 use Rattle.model.specs.Sets.{View, critical, span}

@@ -1,6 +1,7 @@
 -- What the auditor asked for. Every statement is about sets that pass checks 2 to 7 (`Passes s`), in the words of `specs/Words`, and about the runs
 -- of document 01, not about any program. A run c of s (`RunOf s c`) gives each job any whole time from 1 to its largest budget.
 -- Assumes nothing.
+use Rattle.std.specs.Prelude.{None as Never, Some as At}
 use Prim.Native.Nat.{ℕ, ◌≤◌, ◌<◌}
 use mathlib.Core.Path.{◌≡◌, refl, sym, ◌∙◌, ap, subst}
 use mathlib.Core.Bool.{Bool, true, false, not}
@@ -12,7 +13,6 @@ use borrow.Author.Tests.{ltb-true}
 use Rattle.model.specs.declared.Set.{Set}
 use Rattle.model.specs.declared.Scenario.{Scenario}
 use Rattle.model.specs.declared.Scenario.TheVariants.{Hi}
-use Rattle.model.specs.declared.Switch.TheVariants.{Never, At}
 use Rattle.model.specs.declared.Miss.{Miss}
 use Rattle.model.specs.declared.Verdict.TheVariants.{Unfit}
 use Rattle.model.specs.Lists.{at, cut}

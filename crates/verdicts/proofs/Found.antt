@@ -1,98 +1,118 @@
--- What the search has found where it leaves its loops.
---   turn_pass, turn_skip   == a scenario without a miss, or a number that is no scenario, leaves the verdict to the rest
---   Found k x job f c      == no scenario is left and the verdict is fit; or job + 1 misses its deadline in scenario x, first of all
---   found_fit, found-miss  == the two ways out
---   fit_is, unfit_is       == the answer then
+-- What the search finds of one number after another.
+--   Turn s x w             == the verdict is left to the search from scenario x on, and w are the worst finishes over those before
+--   turn_start, turn_pass, turn_skip   == before the first; past a scenario without a miss, or a number that is no scenario
+--   turn_end, turn-miss    == the two ways out: no scenario is left, or a job misses its deadline, first of all
+--   Left s x w             == what the search leaves its loops with;  answer-fit, answer_unfit: the answer then
 -- Assumes nothing.
+use Rattle.std.specs.Prelude.{Some, None, Ok}
 use Prim.Native.Nat.{ℕ, suc, ◌+◌, ◌≤◌, ◌<◌}
 use mathlib.Core.Path.{◌≡◌, refl, sym, ◌∙◌, ap, subst}
-use mathlib.Core.Bool.{Bool, true, false}
+use mathlib.Core.Bool.{Bool, true}
 use mathlib.Core.List.{List}
-use mathlib.Core.Logic.{◌⊎◌, inl, inr}
 use native.Mathlib.Omega.{arith}
 use native.Mathlib.Numerals.{add-one}
 use lib.ListN.{get_or}
+use Rattle.model.specs.declared.Assessed.{Assessed}
 use Rattle.model.specs.declared.Miss.{Miss}
 use Rattle.model.specs.declared.Ran.{Ran}
-use Rattle.model.specs.declared.Assessed.{Assessed}
+use Rattle.model.specs.declared.Scenario.{Scenario}
+use Rattle.model.specs.declared.Set.{Set}
+use Rattle.model.specs.declared.Scenario.TheVariants.{Lo}
+use Rattle.model.specs.declared.Verdict.{Verdict}
 use Rattle.model.specs.declared.Verdict.TheVariants.{Fit, Unfit}
-use Rattle.model.specs.Runs.{mark, outcome_in}
-use Rattle.model.specs.Scenarios.{places, times_of, finish_in, late_in, verdict, times_beside, worst, worsts_beside}
-use Rattle.columns.specs.declared.Columns.{Columns}
-use Rattle.columns.specs.Columns.{view_of, Testable}
-use Rattle.columns.proofs.Entries.{part_e}
+use Rattle.model.specs.Sets.{View, view, critical}
+use Rattle.model.specs.Scenarios.{zeros, places, row, times_of, finish_in, late_in, verdict, times_beside, worst, worsts_beside}
+use Rattle.model.specs.Refusals.{is_good, refusal}
 use Rattle.runs.specs.Engine.{run_of}
 use Rattle.measures.specs.Measures.{missed_by}
-use Rattle.verdicts.specs.Tests.{numbered, plays, fit_with, unfit_in, found}
-use Rattle.verdicts.proofs.Search.{rest, rest_skip, rest_pass, rest_fail, rest_end, Passed, finish_is, late-none, late_is, plays_in, plays_out, missed-turn}
+use Rattle.verdicts.specs.Rows.{raised_in}
+use Rattle.verdicts.specs.Tests.{scenario_at, IsScenario, IsVerdict, found}
+use Rattle.verdicts.proofs.Entries.{part_e, few}
+use Rattle.verdicts.proofs.Carried.{Carried, carried_start, carried_pass, carried_skip, carried_end}
+use Rattle.verdicts.proofs.Search.{rest, rest-start, rest_skip, rest_pass, rest_fail, rest_end, Passed, finish_is, late-none, late_is, here, absent, is_scenario, plays_in, plays_out, missed-turn}
 
--- the answer where job j ends at f in scenario x
-abbrev miss_in : ℕ → ℕ → ℕ → Miss
-miss_in x j f = record { scenario = numbered x; job = j; finish = f }
+abbrev miss_in : Scenario → ℕ → ℕ → Miss
+miss_in y j f = record { scenario = y; job = j; finish = f }
 
-abbrev pub Found : Columns → ℕ → ℕ → ℕ → List ℕ → Type 0
-Found k x job f c =
-    ((k.n < x) × (verdict (view_of k) ≡ Fit))
-    ⊎ ((x ≤ k.n) × (job < k.n) × (verdict (view_of k) ≡ Unfit (record { scenario = numbered x; job = job + 1; finish = f })) × (c ≡ times_of (view_of k) (numbered x)))
+same_miss : {a b : Miss} → Unfit a ≡ Unfit b → a ≡ b
+same_miss e = cc
 
-module _ (k : Columns) (h : Testable k) where
-  small : (x : ℕ) → x ≤ k.n → x ≤ 64
-  small x q = omega (arith, h.full.n)
+abbrev pub Turn : Set → ℕ → List ℕ → Type 0
+Turn s x w = (verdict (view s) ≡ rest (view s) x) × Carried (view s) x w
 
-  pub turn_pass : (x job : ℕ) (c : List ℕ) → verdict (view_of k) ≡ rest (view_of k) x → x ≤ k.n → plays (view_of k) x ≡ true
-      → c ≡ times_of (view_of k) (numbered x) → Passed k c job → k.n ≤ job → verdict (view_of k) ≡ rest (view_of k) (x + 1)
-  turn_pass x job c e q p f m l =
-      e
-      ∙ rest_pass (view_of k) x (small x q) (plays_in k h x q p)
-      (subst (λ d. late_in (view_of k) d ≡ 0) f (late-none k h c (λ i r. m i (omega arith))))
-      ∙ ap (rest (view_of k)) (sym (add-one x))
+-- what the search leaves its loops with
+abbrev pub Left : Set → Verdict → List ℕ → Type 0
+Left s x w = IsVerdict (view s) x × (x ≡ Fit → w ≡ places (view s) (worst (view s)))
 
-  pub turn_skip : (x : ℕ) → verdict (view_of k) ≡ rest (view_of k) x → x ≤ k.n → plays (view_of k) x ≡ false
-      → verdict (view_of k) ≡ rest (view_of k) (x + 1)
-  turn_skip x e q p =
-      let r = plays_out k h x p in
-      e ∙ rest_skip (view_of k) x r.0 (small x q) r.1 ∙ ap (rest (view_of k)) (sym (add-one x))
+pub turn_start : (s : Set) (h : is_good (refusal (view s)) ≡ true) (ends : List ℕ) → ends ≡ row (view s) Lo → Turn s 0 ends
+turn_start s h ends e = (rest-start (view s), carried_start s h ends e)
 
-  pub found_fit : (x job f : ℕ) (c : List ℕ) → verdict (view_of k) ≡ rest (view_of k) x → k.n < x → Found k x job f c
-  found_fit x job f c e q =
-      inl (q, e ∙ rest_end (view_of k) x (omega arith) (λ j a. omega (arith, part_e k j a)))
+module _ (s : Set) (h : is_good (refusal (view s)) ≡ true) (x : ℕ) (w : List ℕ) (t : Turn s x w) where
+  pub turn_skip : (m : List ℕ) → m ≡ w → None ≡ scenario_at (view s) x → x ≤ s.count → Turn s (x + 1) m
+  turn_skip m z p q = (
+    let r = plays_out s x (absent s x p) in
+        t.0 ∙ rest_skip (view s) x r.0 (omega (arith, few s h)) r.1 ∙ ap (rest (view s)) (sym (add-one x)),
+    z ∙ carried_skip s h x w t.1 p,
+  )
 
-  pub found-miss : (x job f : ℕ) (c : List ℕ) (r : Ran) (b : Bool) → verdict (view_of k) ≡ rest (view_of k) x → x ≤ k.n
-      → plays (view_of k) x ≡ true → c ≡ times_of (view_of k) (numbered x) → r ≡ run_of (view_of k) c → Passed k c job → job < k.n
-      → f ≡ get_or r.finishes job 0
-      → b ≡ missed_by (get_or k.critical job false) (get_or k.deadlines job 0) (get_or r.finishes job 0) r.switch → b ≡ true
-      → Found k x job f c
-  unfolding finish_in
-  found-miss x job f c r b e q p g run passed l ends m t =
-      let v = view_of k in
-      let late : late_in v (times_of v (numbered x)) ≡ suc job =
-      subst (λ d. late_in v d ≡ suc job) g (late_is k h c job l passed (missed-turn k h r c job b true l run m t)) in
-      let end : finish_in v (numbered x) (suc job) ≡ f =
-      ap (λ d. mark (outcome_in v d (suc job))) (sym g)
-      ∙ sym (finish_is k h c job l)
-      ∙ ap (λ (y : Ran). get_or y.finishes job 0) (sym run)
-      ∙ sym ends in
-      inr (
-        q,
-        l,
-        e ∙ rest_fail v x (small x q) (plays_in k h x q p) (λ z. omega (arith, z, late))
-            ∙ ap (λ j. Unfit (miss_in x j (finish_in v (numbered x) j))) late
-            ∙ ap (λ n. Unfit (miss_in x (suc job) n)) end
-            ∙ ap (λ n. Unfit (miss_in x n f)) (sym (add-one job)),
-        g,
+  pub turn_end : x ≡ s.count + 1 → (y : Verdict) → y ≡ Fit → Left s y w
+  turn_end q y z =
+      let fit : verdict (view s) ≡ Fit =
+      t.0 ∙ rest_end (view s) x (omega arith) (λ j a. omega (arith, part_e s j a)) in (
+        record { is = z ∙ sym fit; scenario = λ m f. let c : Fit ≡ Unfit m = sym z ∙ f in absurd (cc) },
+        λ _. carried_end s h x w t.1 q,
       )
 
-  pub unfit_is : (x job f : ℕ) (c : List ℕ) (r : Assessed) → Found k x job f c → x ≤ k.n → r ≡ unfit_in x job f c → r ≡ found (view_of k)
-  unfolding found unfit_in times_beside worsts_beside
-  unfit_is x job f c r (inl z) q e = absurd (omega (arith, z.0))
-  unfit_is x job f c r (inr z) q e = e ∙ rw (z.2, z.3) refl
+  module _ (y : Scenario) (p : Some y ≡ scenario_at (view s) x) (q : x ≤ s.count) (r : Ran) (run : r ≡ run_of (view s) (times_of (view s) y))
+      (job : ℕ) (passed : Passed (view s) (times_of (view s) y) job) where
+    pub turn_pass : (m : List ℕ) → s.count ≤ job → m ≡ raised_in (view s) w r.finishes → Turn s (x + 1) m
+    turn_pass m l z = (
+      let n = here s x y p in
+          t.0
+          ∙ rest_pass (view s) x (omega (arith, few s h)) (plays_in s x q n.0)
+          (subst (λ k. late_in (view s) (times_of (view s) k) ≡ 0) n.1 (late-none s h (times_of (view s) y) (λ i o. passed i (omega arith))))
+          ∙ ap (rest (view s)) (sym (add-one x)),
+      carried_pass s h x y w m r t.1 q p run z,
+    )
 
-  pub fit_is : (x job f : ℕ) (c w : List ℕ) (r : Assessed) → Found k x job f c → k.n < x → w ≡ places (view_of k) (worst (view_of k)) → r ≡ fit_with w
-      → r ≡ found (view_of k)
-  unfolding found fit_with times_beside worsts_beside
-  fit_is x job f c w r (inl z) q d e = e ∙ ap fit_with d ∙ rw z.1 refl
-  fit_is x job f c w r (inr z) q d e = absurd (omega (arith, z.0))
+    module _ (b : Bool) (l : job < s.count) (k : Bool) (a : k ≡ critical (view s).policy (suc job)) (d : ℕ) (o : d ≡ (view s).deadline (suc job))
+        (m : b ≡ missed_by k d (get_or r.finishes job 0) r.switch) (f : b ≡ true) where
+      first : verdict (view s) ≡ Unfit (miss_in y (job + 1) (get_or r.finishes job 0))
+      unfolding finish_in
+      first =
+          let v = view s in
+          let n = here s x y p in
+          let late : late_in v (times_of v y) ≡ suc job = late_is s h (times_of v y) job l passed (missed-turn s h r (times_of v y) job b true l run k a d o m f) in
+          let end : finish_in v y (suc job) ≡ get_or r.finishes job 0 =
+          sym (finish_is s h (times_of v y) job l) ∙ ap (λ (z : Ran). get_or z.finishes job 0) (sym run) in
+          t.0
+          ∙ rest_fail v x (omega (arith, few s h)) (plays_in s x q n.0)
+          (subst (λ j. late_in v (times_of v j) ≡ 0 → ⊥) n.1 (λ z. omega (arith, z, late)))
+          ∙ ap (λ c. Unfit (miss_in c (late_in v (times_of v c)) (finish_in v c (late_in v (times_of v c))))) (sym n.1)
+          ∙ ap (λ j. Unfit (miss_in y j (finish_in v y j))) late
+          ∙ ap (λ c. Unfit (miss_in y (suc job) c)) end
+          ∙ ap (λ j. Unfit (miss_in y j (get_or r.finishes job 0))) (sym (add-one job))
 
-  pub job_fits : (x job f : ℕ) (c : List ℕ) → Found k x job f c → x ≤ k.n → job < 64
-  job_fits x job f c (inl z) q = absurd (omega (arith, z.0))
-  job_fits x job f c (inr z) q = omega (arith, z.1, h.full.n)
+      pub turn-miss : (u : Verdict) (c : List ℕ) → u ≡ Unfit (record { scenario = y; job = job + 1; finish = get_or r.finishes job 0 }) → Left s u c
+      turn-miss u c z = (
+        record {
+          is = z ∙ sym first;
+          scenario =
+              λ n e.
+              let g : miss_in y (job + 1) (get_or r.finishes job 0) ≡ n = same_miss (sym z ∙ e) in
+              subst (λ (i : Miss). IsScenario (view s) i.scenario) g (is_scenario s x q y p);
+        },
+        λ e. let g : Unfit (miss_in y (job + 1) (get_or r.finishes job 0)) ≡ Fit = sym z ∙ e in absurd (cc),
+      )
+
+-- what stands beside a verdict
+module _ (v : View) (x : Verdict) where
+  pub answer-fit : (w : List ℕ) → x ≡ verdict v → x ≡ Fit → w ≡ places v (worst v)
+      → ◌≡◌ {A = Assessed} (record { judged = record { judgement = Ok x; times = zeros }; worsts = w }) (found v)
+  unfolding found times_beside worsts_beside
+  answer-fit w e f z = rw (sym e, f, z) refl
+
+  pub answer_unfit : (m : Miss) (c : List ℕ) → x ≡ verdict v → x ≡ Unfit m → c ≡ times_of v m.scenario
+      → ◌≡◌ {A = Assessed} (record { judged = record { judgement = Ok x; times = c }; worsts = zeros }) (found v)
+  unfolding found times_beside worsts_beside
+  answer_unfit m c e f z = rw (sym e, f, z) refl

@@ -1,33 +1,34 @@
 -- The running times of scenario x, from the finishes of scenario 0: of two HI jobs, one is done at the other's turn exactly if it does not
 -- end after it.
 --   end-turn                 == what scenario 0 marks of a HI job is its turn
---   time_in k x j            == the time of job j in scenario x;  raised_test: when it is raised, by the columns and the finishes
---   times-lo                 == scenario 0 has the LO budgets
---   times_more, times-hi     == a turn of the loop over the jobs; after it
+--   raises, stays            == the time of a job in a HI scenario, by its level and the finishes;  raised_test: when it is raised
+--   times-lo, times-hi       == the times of a scenario, from those of each job
 -- Assumes nothing.
-use Prim.Native.Nat.{ℕ, suc, ◌+◌, ◌-◌, ◌≤◌, ◌<◌}
+use Prim.Native.Nat.{ℕ, suc, ◌+◌, ◌-◌, ◌≤◌, ◌<◌, min}
 use mathlib.Core.Path.{◌≡◌, refl, sym, ◌∙◌, ap}
-use mathlib.Core.Bool.{true, false, cond, not, ◌&&◌, ◌||◌}
+use mathlib.Core.Bool.{Bool, true, false, cond, not, ◌&&◌, ◌||◌}
 use mathlib.Core.List.{List}
+use mathlib.Core.Logic.{◌⊎◌, inl, inr}
 use native.Mathlib.Omega.{arith}
 use native.Mathlib.Numerals.{add-one}
 use lib.Dec.{eqb, leb, ltb}
-use lib.ListN.{get_or, set}
+use lib.ListN.{get_or}
 use borrow.Author.Tests.{eq-eqb, ne_eqb, lt-ltb, le-ltb}
-use Rattle.model.specs.declared.Scenario.TheVariants.{Lo}
+use Rattle.model.specs.declared.Scenario.{Scenario}
+use Rattle.model.specs.declared.Scenario.TheVariants.{Lo, Hi}
 use Rattle.model.specs.Lists.{at}
-use Rattle.model.specs.Sets.{View, critical}
+use Rattle.model.specs.Sets.{View, view, critical}
 use Rattle.model.specs.Runs.{time, done_at, mark, outcome_in}
 use Rattle.model.specs.Scenarios.{places, lo_times, turn, hi_time, times_of, finish_in, row}
-use Rattle.laws.proofs.Bools.{tests, split}
+use Rattle.model.specs.Refusals.{is_good, refusal}
+use Rattle.laws.proofs.Bools.{tests, split, or_r}
 use Rattle.laws.proofs.Places.{at_in}
 use Rattle.laws.proofs.Sound.{Sound}
 use Rattle.laws.proofs.Turns.{place-time, done-turn, hi-mark}
-use Rattle.columns.specs.declared.Columns.{Columns}
-use Rattle.columns.specs.Columns.{view_of, listed}
-use Rattle.columns.proofs.Entries.{part_is, critical_is, lo_is, hi_is}
-use Rattle.verdicts.specs.Tests.{numbered, Playable}
-use Rattle.laws.proofs.Fill.{up_to, up_to-more, up_to-places}
+use Rattle.model.specs.declared.Set.{Set}
+use Rattle.verdicts.proofs.Entries.{part_is, part_e, sound}
+use Rattle.verdicts.specs.Tests.{IsScenario, time_in}
+use Rattle.laws.proofs.Fill.{up_to, up_to-end, up_to-places}
 
 not_leb : (m n : ℕ) → not (leb m n) ≡ ltb n m
 not_leb m n =
@@ -40,50 +41,56 @@ end-turn : (v : View) → Sound v → (j : ℕ) → v.policy.part j ≡ true →
 unfolding row finish_in times_of time turn
 end-turn v s j a k = place-time v (λ i. mark (outcome_in v (lo_times v) i)) j s.ordered a ∙ hi-mark v (lo_times v) j k
 
--- the time of job j in scenario x
-unfoldable pub time_in : Columns → ℕ → ℕ → ℕ
-time_in k x = hi_time (view_of k) x (done_at (view_of k).policy (lo_times (view_of k)) (turn (view_of k) x))
+-- the finishes of scenario 0 say of a HI job at which instant its turn comes
+module _ (s : Set) (g : is_good (refusal (view s)) ≡ true) (ends : List ℕ) (e : ends ≡ row (view s) Lo) where
+  end_of : (j : ℕ) → (view s).policy.part j ≡ true → critical (view s).policy j ≡ true → 1 ≤ j → get_or ends (j - 1) 0 ≡ turn (view s) j
+  end_of j a c one = sym (at_in ends j 0 one) ∙ ap (λ l. at l j 0) e ∙ end-turn (view s) (sound s g) j a c
 
-module _ (k : Columns) (x : ℕ) (ends : List ℕ) (h : Playable k x ends) where
-  pub times-lo : x ≡ 0 → k.lo ≡ times_of (view_of k) (numbered x)
-  unfolding numbered times_of
-  times-lo z = h.testable.los ∙ rw (eq-eqb x 0 z) refl
-
-  module _ (ne : x ≡ 0 → ⊥) where
-    pub x_place : x ≤ 64
-    x_place = (h.testable.sound.ordered.room x (h.scenario ne).0).1
-
-    pub times-hi : (times : List ℕ) (i : ℕ) → times ≡ up_to i (time_in k x) 0 → i ≡ k.n → times ≡ times_of (view_of k) (numbered x)
-    unfolding numbered times_of time_in places view_of listed
-    times-hi times i e z = e ∙ ap (λ n. up_to n (time_in k x) 0) z ∙ up_to-places k.n (time_in k x) 0 ∙ rw (ne_eqb x 0 ne) refl
-
-    end_of : (j : ℕ) → (view_of k).policy.part j ≡ true → critical (view_of k).policy j ≡ true → 1 ≤ j → get_or ends (j - 1) 0 ≡ turn (view_of k) j
-    end_of j a c one =
-        sym (at_in ends j 0 one) ∙ ap (λ l. at l j 0) h.ends_are ∙ end-turn (view_of k) h.testable.sound j a c
-
+  module _ (x : ℕ) (own : IsScenario (view s) (Hi x)) (i : ℕ) (q : i < s.count) (b : Bool) (level : b ≡ critical (view s).policy (suc i))
+      (hi lo : ℕ) (his : hi ≡ (view s).hi (suc i)) (los : lo ≡ (view s).policy.lo (suc i)) where
     -- job i + 1 is raised by the code's test exactly if it is by the model's
-    raised_test : (i : ℕ) → i < k.n
-        → (get_or k.critical i false && (eqb (i + 1) x || ltb (get_or ends (x - 1) 0) (get_or ends i 0)))
-        ≡ (critical (view_of k).policy (suc i)
-        && (eqb (suc i) x || not (done_at (view_of k).policy (lo_times (view_of k)) (turn (view_of k) x) (suc i))))
-    raised_test i q =
-        let v = view_of k in
-        let s = h.testable.sound in
+    raised_test : (b && (eqb (i + 1) x || ltb (get_or ends (x - 1) 0) (get_or ends i 0)))
+        ≡ (critical (view s).policy (suc i)
+        && (eqb (suc i) x || not (done_at (view s).policy (lo_times (view s)) (turn (view s) x) (suc i))))
+    raised_test =
+        let v = view s in
         let j : ℕ = suc i in
-        let own = h.scenario ne in
-        let level : critical v.policy j ≡ get_or k.critical i false = critical_is k i in
-        split (get_or k.critical i false)
+        split b
         (λ c.
-        let kj : critical v.policy j ≡ true = level ∙ c in
-        let end-j : get_or ends i 0 ≡ turn v j = ap (λ m. get_or ends m 0) (omega arith) ∙ end_of j (part_is k i q) kj (omega arith) in
-        let end-x : get_or ends (x - 1) 0 ≡ turn v x = end_of x own.0 own.1 (omega (arith, ne)) in
-        rw (c, kj, end-j, end-x, add-one, done-turn v s x j own.0 own.1 (part_is k i q) kj, not_leb) refl)
-        (λ c. let kj : critical v.policy j ≡ false = level ∙ c in rw (c, kj) refl)
+        let kj : critical v.policy j ≡ true = sym level ∙ c in
+        let end-j : get_or ends i 0 ≡ turn v j = ap (λ m. get_or ends m 0) (omega arith) ∙ end_of j (part_is s i q) kj (omega arith) in
+        let end-x : get_or ends (x - 1) 0 ≡ turn v x = end_of x own.0 own.1 (part_e s x own.0).0 in
+        rw (c, kj, end-j, end-x, add-one, done-turn v (sound s g) x j own.0 own.1 (part_is s i q) kj, not_leb) refl)
+        (λ c. let kj : critical v.policy j ≡ false = sym level ∙ c in rw (c, kj) refl)
 
-    pub times_more : (times : List ℕ) (i r : ℕ) → times ≡ up_to i (time_in k x) 0 → i < k.n
-        → r ≡ cond (get_or k.critical i false && (eqb (i + 1) x || ltb (get_or ends (x - 1) 0) (get_or ends i 0))) (get_or k.hi i 0) (get_or k.lo i 0)
-        → set times i r ≡ up_to (i + 1) (time_in k x) 0
+    time_is : (r : Bool) → (b && (eqb (i + 1) x || ltb (get_or ends (x - 1) 0) (get_or ends i 0))) ≡ r
+        → cond r hi lo ≡ time_in (view s) x (i + 1)
     unfolding time_in hi_time
-    times_more times i r e q d =
-        up_to-more times i (time_in k x) r 0 e (omega (arith, h.testable.full.n))
-        (d ∙ rw (raised_test i q, hi_is k i, lo_is k i) refl)
+    time_is r d = rw add-one (rw (sym d ∙ raised_test, his, los) refl)
+
+    pub raises : b ≡ true → (i + 1 ≡ x) ⊎ (get_or ends (x - 1) 0 < get_or ends i 0)
+        → hi ≡ time_in (view s) x (i + 1)
+    raises c (inl o) = time_is true (rw (c, eq-eqb (i + 1) x o) refl)
+    raises c (inr o) = time_is true (rw c (or_r (eqb (i + 1) x) (lt-ltb (get_or ends (x - 1) 0) (get_or ends i 0) o)))
+
+    pub stays : (b ≡ false) ⊎ ((i + 1 ≡ x → ⊥) × (get_or ends i 0 ≤ get_or ends (x - 1) 0))
+        → lo ≡ time_in (view s) x (i + 1)
+    stays (inl c) = time_is false (rw c refl)
+    stays (inr (n, o)) =
+        split b
+        (λ c. time_is false (rw (c, ne_eqb (i + 1) x n, le-ltb (get_or ends (x - 1) 0) (get_or ends i 0) o) refl))
+        (λ c. time_is false (rw c refl))
+
+-- a loop that has filled the times of each job has filled those of the scenario
+module _ (s : Set) (times : List ℕ) (i : ℕ) (z : i ≡ min s.count 64) where
+  pub times-lo : times ≡ up_to i (view s).policy.lo 0 → times ≡ lo_times (view s)
+  unfolding lo_times places view
+  times-lo e = e ∙ up_to-end i s.count (view s).policy.lo 0 z ∙ up_to-places s.count (view s).policy.lo 0
+
+  pub times-hi : (x : ℕ) → times ≡ up_to i (time_in (view s) x) 0 → times ≡ times_of (view s) (Hi x)
+  unfolding times_of time_in places view
+  times-hi x e = e ∙ up_to-end i s.count (time_in (view s) x) 0 z ∙ up_to-places s.count (time_in (view s) x) 0
+
+pub times_lo : (v : View) (y : Scenario) (times : List ℕ) → y ≡ Lo → times ≡ lo_times v → times ≡ times_of v y
+unfolding times_of
+times_lo v y times e f = f ∙ sym (rw e refl)

@@ -1,13 +1,14 @@
 -- The search for the first required miss, a scenario at a time. The verdict is what the search over the scenarios from x on finds.
 --   rest v x       == what the search from scenario x on finds
 --   rest_skip, rest_pass, rest_fail, rest_end   == one scenario: none of the set's, one without a miss, one with a miss, none left
---   plays-..       == which numbers are scenarios
---   missed_is      == what the code tests of a job is the model's test
+--   missed-turn    == what the code tests of a job is the model's test
 --   late-none, late_is   == no job is late where required; the job found is the lowest that is
+--   at-.., here, absent, is_scenario, plays-..   == which numbers are scenarios
 -- Assumes nothing.
+use Rattle.std.specs.Prelude.{None as Never, Some as At, None, Some, Option}
 use Prim.Native.Nat.{ℕ, zero, suc, ◌+◌, ◌-◌, ◌≤◌, ◌<◌}
 use mathlib.Core.Path.{◌≡◌, refl, sym, ◌∙◌, ap, subst}
-use mathlib.Core.Bool.{Bool, true, false, cond, ◌&&◌, ◌||◌}
+use mathlib.Core.Bool.{Bool, true, false, ◌&&◌}
 use mathlib.Core.List.{List, [], ◌∷◌, map}
 use mathlib.Core.Logic.{◌⊎◌, inl, inr, ⊎_elim}
 use native.Mathlib.Omega.{arith}
@@ -16,27 +17,24 @@ use lib.ListN.{get_or}
 use borrow.Author.Tests.{eq-eqb, ne_eqb, eqb-true, eqb-false}
 use Rattle.model.specs.declared.Ran.{Ran}
 use Rattle.model.specs.declared.Scenario.TheVariants.{Lo, Hi}
-use Rattle.model.specs.declared.Switch.{Switch}
-use Rattle.model.specs.declared.Switch.TheVariants.{Never, At}
 use Rattle.model.specs.declared.Miss.{Miss}
 use Rattle.model.specs.declared.Scenario.{Scenario}
 use Rattle.model.specs.declared.Verdict.{Verdict}
 use Rattle.model.specs.declared.Verdict.TheVariants.{Fit, Unfit}
 use Rattle.model.specs.Lists.{from, numbers, only}
-use Rattle.model.specs.Sets.{View, members, critical}
+use Rattle.model.specs.Sets.{View, view, members, critical}
 use Rattle.model.specs.Runs.{mark, required_after, outcome_in, switch_in, required, late, missed}
-use Rattle.model.specs.Scenarios.{places, hi_jobs, scenarios, times_of, finish_in, late_in, search, verdict}
-use Rattle.laws.proofs.Bools.{split, and_no_r, or_l, or_cases, or_no_l, or_no_r}
+use Rattle.model.specs.Scenarios.{hi_jobs, scenarios, times_of, finish_in, late_in, search, verdict}
+use Rattle.model.specs.Refusals.{is_good, refusal}
+use Rattle.laws.proofs.Bools.{tests, split, and_no_r, or_l, or_no_l, or_no_r}
 use Rattle.laws.proofs.Lists.{first_zero}
-use Rattle.laws.proofs.Sums.{at-numbers}
 use Rattle.laws.proofs.Ascending.{members_ascending, first_is}
-use Rattle.laws.proofs.Places.{members_e, members_i, members_nonzero, at_suc}
-use Rattle.columns.specs.declared.Columns.{Columns}
-use Rattle.columns.specs.Columns.{view_of, Testable}
-use Rattle.columns.proofs.Entries.{part_is, part_e, critical_is, deadline_is}
+use Rattle.laws.proofs.Places.{members_e, members_i, members_nonzero}
+use Rattle.model.specs.declared.Set.{Set}
+use Rattle.verdicts.proofs.Entries.{part_is, part_e, place_is, sound}
 use Rattle.runs.specs.Engine.{run_of}
 use Rattle.measures.specs.Measures.{missed_by}
-use Rattle.verdicts.specs.Tests.{numbered, plays}
+use Rattle.verdicts.specs.Tests.{numbered, plays, scenario_at, IsScenario}
 
 -- the HI jobs from number k on, of 64
 hi_from : View → ℕ → ℕ → List ℕ
@@ -128,91 +126,113 @@ module _ (v : View) where
   rest_end zero p h = absurd (omega arith)
   rest_end (suc k) p h = ap (λ l. search v (map Hi l)) (none_from (suc k) (64 - k) h)
 
--- one run over the columns ------------------------------------------------------------------------------------------------------------
+-- one run -------------------------------------------------------------------------------------------------------------------------------
 
-missed_by_lem : (v : View) (c : List ℕ) (j : ℕ) (x : Switch) → switch_in v c ≡ x
+missed_by_lem : (v : View) (c : List ℕ) (j : ℕ) (x : Option ℕ) → switch_in v c ≡ x
     → missed_by (critical v.policy j) (v.deadline j) (mark (outcome_in v c j)) x ≡ missed v c j
 unfolding missed_by missed required required_after late
 missed_by_lem v c j Never e = rw e refl
 missed_by_lem v c j (At t) e = rw e refl
 
 -- the jobs looked at so far have no required miss
-abbrev pub Passed : Columns → List ℕ → ℕ → Type 0
-Passed k c job = (i : ℕ) → i < job → missed (view_of k) c (suc i) ≡ false
+abbrev pub Passed : View → List ℕ → ℕ → Type 0
+Passed v c job = (i : ℕ) → i < job → missed v c (suc i) ≡ false
 
-module _ (k : Columns) (h : Testable k) where
-  pub finish_is : (c : List ℕ) (i : ℕ) → i < k.n → get_or (run_of (view_of k) c).finishes i 0 ≡ mark (outcome_in (view_of k) c (suc i))
-  unfolding run_of places
-  finish_is c i q =
-      let v = view_of k in
-      let f : ℕ → ℕ = λ j. cond (v.policy.part j) (mark (outcome_in v c j)) 0 in
-      sym (at_suc (run_of v c).finishes i 0)
-      ∙ at-numbers f 64 (suc i) 0 (omega arith) (omega (arith, h.full.n))
-      ∙ rw (part_is k i q) refl
-
-  pub missed_is : (c : List ℕ) (i : ℕ) → i < k.n
-      → missed_by (get_or k.critical i false) (get_or k.deadlines i 0) (get_or (run_of (view_of k) c).finishes i 0) (run_of (view_of k) c).switch
-      ≡ missed (view_of k) c (suc i)
+module _ (s : Set) (h : is_good (refusal (view s)) ≡ true) where
+  pub finish_is : (c : List ℕ) (i : ℕ) → i < s.count → get_or (run_of (view s) c).finishes i 0 ≡ mark (outcome_in (view s) c (suc i))
   unfolding run_of
-  missed_is c i q =
-      let v = view_of k in
-      ap (λ b. missed_by b (get_or k.deadlines i 0) (get_or (run_of v c).finishes i 0) (switch_in v c)) (sym (critical_is k i))
-      ∙ ap (λ d. missed_by (critical v.policy (suc i)) d (get_or (run_of v c).finishes i 0) (switch_in v c)) (sym (deadline_is k i))
-      ∙ ap (λ f. missed_by (critical v.policy (suc i)) (v.deadline (suc i)) f (switch_in v c)) (finish_is c i q)
-      ∙ missed_by_lem v c (suc i) (switch_in v c) refl
+  finish_is c i q = place_is s h (λ j. mark (outcome_in (view s) c j)) i q
 
-  pub passed_more : (c : List ℕ) (job : ℕ) → Passed k c job → missed (view_of k) c (suc job) ≡ false → Passed k c (job + 1)
+  -- what the code finds of job i + 1 of a run
+  pub missed-turn : (r : Ran) (c : List ℕ) (i : ℕ) (b x : Bool) → i < s.count → r ≡ run_of (view s) c
+      → (k : Bool) → k ≡ critical (view s).policy (suc i) → (d : ℕ) → d ≡ (view s).deadline (suc i)
+      → b ≡ missed_by k d (get_or r.finishes i 0) r.switch → b ≡ x
+      → missed (view s) c (suc i) ≡ x
+  unfolding run_of
+  missed-turn r c i b x q e k m d n f g =
+      let v = view s in
+      sym (missed_by_lem v c (suc i) (switch_in v c) refl)
+      ∙ rw (sym m, sym n, sym (finish_is c i q))
+      (ap (λ (y : Ran). missed_by k d (get_or y.finishes i 0) y.switch) (sym e) ∙ sym f ∙ g)
+
+  pub passed_more : (c : List ℕ) (job : ℕ) → Passed (view s) c job → missed (view s) c (suc job) ≡ false → Passed (view s) c (job + 1)
   passed_more c job p m i q =
       split (eqb i job)
-      (λ e. subst (λ n. missed (view_of k) c (suc n) ≡ false) (sym (eqb-true i job e)) m)
+      (λ e. subst (λ n. missed (view s) c (suc n) ≡ false) (sym (eqb-true i job e)) m)
       (λ e. let ne : i ≡ job → ⊥ = eqb-false i job e in p i (omega (arith, ne)))
 
-  of_suc : (c : List ℕ) (job j : ℕ) → Passed k c job → 1 ≤ j → j ≤ job → missed (view_of k) c j ≡ false
-  of_suc c job j p a b = subst (λ n. missed (view_of k) c n ≡ false) (omega arith) (p (j - 1) (omega arith))
+  of_suc : (c : List ℕ) (job j : ℕ) → Passed (view s) c job → 1 ≤ j → j ≤ job → missed (view s) c j ≡ false
+  of_suc c job j p a b = subst (λ n. missed (view s) c n ≡ false) (omega arith) (p (j - 1) (omega arith))
 
-  pub late-none : (c : List ℕ) → Passed k c k.n → late_in (view_of k) c ≡ 0
+  pub late-none : (c : List ℕ) → Passed (view s) c s.count → late_in (view s) c ≡ 0
   unfolding late_in
   late-none c p =
-      first_zero (missed (view_of k) c) (members (view_of k).policy)
-      (λ j m. let r = part_e k j (members_e (view_of k).policy j m) in of_suc c k.n j p r.0 r.1)
+      first_zero (missed (view s) c) (members (view s).policy)
+      (λ j m. let r = part_e s j (members_e (view s).policy j m) in of_suc c s.count j p r.0 r.1)
 
-  pub late_is : (c : List ℕ) (job : ℕ) → job < k.n → Passed k c job → missed (view_of k) c (suc job) ≡ true → late_in (view_of k) c ≡ suc job
+  pub late_is : (c : List ℕ) (job : ℕ) → job < s.count → Passed (view s) c job → missed (view s) c (suc job) ≡ true → late_in (view s) c ≡ suc job
   unfolding late_in
   late_is c job q p m =
-      let v = view_of k in
+      let v = view s in
       first_is (missed v c) (members v.policy) (members_ascending v.policy) (members_nonzero v.policy) (suc job)
-      (members_i v.policy (suc job) h.sound.ordered.room (part_is k job q)) m
-      (λ i n l. let r = part_e k i (members_e v.policy i n) in of_suc c job i p r.0 (omega arith))
+      (members_i v.policy (suc job) (sound s h).ordered.room (part_is s job q)) m
+      (λ i n l. let r = part_e s i (members_e v.policy i n) in of_suc c job i p r.0 (omega arith))
 
-  -- what the code asks of a number: whether it is a scenario
-  pub plays_in : (x : ℕ) → x ≤ k.n → plays (view_of k) x ≡ true → Plays (view_of k) x
-  unfolding plays
-  plays_in zero q e = inl refl
-  plays_in (suc i) q e =
-      inr (part_is k i (omega arith), ⊎_elim (λ z. absurd (eqb-false (suc i) 0 (ne_eqb (suc i) 0 (omega arith)) (eqb-true (suc i) 0 z))) (λ z. z) (or_cases (eqb (suc i) 0) (critical (view_of k).policy (suc i)) e))
+-- which numbers are scenarios -----------------------------------------------------------------------------------------------------------
 
-  pub plays_out : (x : ℕ) → plays (view_of k) x ≡ false → (1 ≤ x) × (((view_of k).policy.part x && critical (view_of k).policy x) ≡ false)
+module _ (s : Set) (x : ℕ) where
+  -- what the code answers for a number: the scenario, or that it is none
+  pub here : (y : Scenario) → Some y ≡ scenario_at (view s) x → (plays (view s) x ≡ true) × (y ≡ numbered x)
+  unfolding scenario_at
+  here y e =
+      split (plays (view s) x)
+      (λ p. (p, let q : Some y ≡ Some (numbered x) = rw p at e in cc))
+      (λ p. let q : Some y ≡ None = rw p at e in absurd (cc))
+
+  pub absent : None ≡ scenario_at (view s) x → plays (view s) x ≡ false
+  unfolding scenario_at
+  absent e = split (plays (view s) x) (λ p. let q : None ≡ Some (numbered x) = rw p at e in absurd (cc)) (λ p. p)
+
+  pub plays_in : x ≤ s.count → plays (view s) x ≡ true → Plays (view s) x
   unfolding plays
-  plays_out x e = (
-    let ne : x ≡ 0 → ⊥ = eqb-false x 0 (or_no_l (eqb x 0) (critical (view_of k).policy x) e) in omega (arith, ne),
-    and_no_r ((view_of k).policy.part x) (or_no_r (eqb x 0) (critical (view_of k).policy x) e),
+  plays_in q e =
+      split (eqb x 0) (λ z. inl (eqb-true x 0 z))
+      (λ z.
+      let one : 1 ≤ x = omega (tests, z) in
+      inr (
+        subst (λ n. (view s).policy.part n ≡ true) (omega arith) (part_is s (x - 1) (omega arith)),
+        (rw z at e),
+      ))
+
+  pub plays_out : plays (view s) x ≡ false → (1 ≤ x) × (((view s).policy.part x && critical (view s).policy x) ≡ false)
+  unfolding plays
+  plays_out e = (
+    let ne : x ≡ 0 → ⊥ = eqb-false x 0 (or_no_l (eqb x 0) (critical (view s).policy x) e) in omega (arith, ne),
+    and_no_r ((view s).policy.part x) (or_no_r (eqb x 0) (critical (view s).policy x) e),
   )
 
-  pub plays_zero : (x : ℕ) → x ≡ 0 → plays (view_of k) x ≡ true
+  pub plays_zero : x ≡ 0 → plays (view s) x ≡ true
   unfolding plays
-  plays_zero x e = or_l (critical (view_of k).policy x) (eq-eqb x 0 e)
+  plays_zero e = or_l (critical (view s).policy x) (eq-eqb x 0 e)
 
-  pub plays_is : (x : ℕ) → 1 ≤ x → plays (view_of k) x ≡ get_or k.critical (x - 1) false
-  unfolding plays
-  plays_is x q =
-      ap (λ b. b || critical (view_of k).policy x) (ne_eqb x 0 (omega arith))
-      ∙ subst (λ n. critical (view_of k).policy n ≡ get_or k.critical (x - 1) false) (omega arith) (critical_is k (x - 1))
+  pub is_scenario : x ≤ s.count → (y : Scenario) → Some y ≡ scenario_at (view s) x → IsScenario (view s) y
+  unfolding numbered
+  is_scenario q y e =
+      let p = here y e in
+      subst (IsScenario (view s)) (sym p.1)
+      (⊎_elim (λ z. rw (eq-eqb x 0 z) tt)
+      (λ (a, b).
+      split (eqb x 0) (λ z. rw z tt) (λ z. rw z (a, b)))
+      (plays_in q p.0))
 
-  -- what the code finds of a job of a scenario's run
-  pub missed-turn : (r : Ran) (c : List ℕ) (i : ℕ) (b x : Bool) → i < k.n → r ≡ run_of (view_of k) c
-      → b ≡ missed_by (get_or k.critical i false) (get_or k.deadlines i 0) (get_or r.finishes i 0) r.switch → b ≡ x
-      → missed (view_of k) c (suc i) ≡ x
-  missed-turn r c i b x q e f g =
-      sym (missed_is c i q)
-      ∙ ap (λ (y : Ran). missed_by (get_or k.critical i false) (get_or k.deadlines i 0) (get_or y.finishes i 0) y.switch) (sym e)
-      ∙ sym f ∙ g
+  pub at-lo : x ≡ 0 → Some Lo ≡ scenario_at (view s) x
+  unfolding scenario_at plays numbered
+  at-lo e = rw (eq-eqb x 0 e) refl
+
+  pub at-hi : (1 ≤ x) → true ≡ critical (view s).policy (suc (x - 1)) → Some (Hi x) ≡ scenario_at (view s) x
+  unfolding scenario_at plays numbered
+  at-hi p e = let z : suc (x - 1) ≡ x = omega arith in rw (ne_eqb x 0 (omega arith), rw z at (sym e)) refl
+
+  pub at-none : (1 ≤ x) → false ≡ critical (view s).policy (suc (x - 1)) → None ≡ scenario_at (view s) x
+  unfolding scenario_at plays numbered
+  at-none p e = let z : suc (x - 1) ≡ x = omega arith in rw (ne_eqb x 0 (omega arith), rw z at (sym e)) refl

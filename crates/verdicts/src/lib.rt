@@ -7,51 +7,45 @@ ghost use Rattle.model.specs.Sets.{view};
 ghost use Rattle.model.specs.Refusals.{refusal};
 ghost use Rattle.model.specs.Answers.{judged, assessed, finish_rows, worsts as worsts_of, margins as margins_of};
 
+mod published;
 mod rows;
-mod scenario;
 mod verdict;
 
 use checks::refusal_of;
-use columns::columns_of;
-use model::{Assessed, GOOD, Judged, Judgement, Refusal, Set};
-use rows::{margins_of, rows_of, worsts_of, zero_rows};
-use verdict::search;
+use model::{Assessed, Judged, Refusal, Set};
+use published::Test;
 
 // The judgement of a set with its times, and beside it the worst finishes of a fit set: one run of each scenario gives both.
 pub fn assess(s: Set) -> Assessed
     ensures { result ≡ assessed (view s) }
 {
-    let refusal = refusal_of(s);
-    if refusal.number != GOOD {
-        let judged = Judged {
-            judgement: Judgement::Refused(refusal),
-            times: [0u16; 64],
-        };
-        return Assessed {
-            judged,
+    match Test::of(s) {
+        Ok(test) => test.search(),
+        Err(refusal) => Assessed {
+            judged: Judged {
+                judgement: Err(refusal),
+                times: [0u16; 64],
+            },
             worsts: [0u16; 64],
-        };
+        },
     }
-    search(s, columns_of(s))
 }
 
 // The judgement of a set, with the running times of the failing scenario beside it.
 pub fn judge(s: Set) -> Judged
     ensures { result ≡ judged (view s) }
 {
-    let a = assess(s);
-    a.judged
+    assess(s).judged
 }
 
 // The finishes of all scenarios: row 0 is LO, and row j that of HI job j.
 pub fn finish_rows(s: Set) -> [[u16; 64]; 65]
     ensures { result ≡ finish_rows (view s) }
 {
-    let refusal = refusal_of(s);
-    if refusal.number != GOOD {
-        return zero_rows();
+    match Test::of(s) {
+        Ok(test) => test.rows(),
+        Err(_) => [[0u16; 64]; 65],
     }
-    rows_of(s, columns_of(s))
 }
 
 // The refusal that comes with the finish rows, the worst finishes and the margins.
@@ -65,21 +59,18 @@ pub fn rows_refusal(s: Set) -> Refusal
 pub fn worst_finishes(s: Set) -> [u16; 64]
     ensures { result ≡ worsts_of (view s) }
 {
-    let refusal = refusal_of(s);
-    if refusal.number != GOOD {
-        return [0u16; 64];
+    match Test::of(s) {
+        Ok(test) => test.worsts(),
+        Err(_) => [0u16; 64],
     }
-    worsts_of(s, columns_of(s))
 }
 
 // Each job's margin: its deadline minus its worst finish.
 pub fn margins(s: Set) -> [i32; 64]
     ensures { result ≡ margins_of (view s) }
 {
-    let refusal = refusal_of(s);
-    if refusal.number != GOOD {
-        return [0i32; 64];
+    match Test::of(s) {
+        Ok(test) => test.margins(),
+        Err(_) => [0i32; 64],
     }
-    let k = columns_of(s);
-    margins_of(k, worsts_of(s, k))
 }

@@ -1,80 +1,66 @@
 // The search for the first required miss, and beside it, for a fit set, the worst finishes: from one run of each scenario.
-ghost use Rattle.std.specs.Prelude.{◌≡◌, ◌≤◌, ◌<◌};
-ghost use Rattle.columns.specs.Columns.{view_of, Prepared};
-ghost use Rattle.verdicts.specs.Tests.{fit_with, unfit_in, found};
+ghost use Rattle.std.specs.Prelude.{◌≡◌};
+ghost use Rattle.model.specs.Sets.{view};
+ghost use Rattle.model.specs.declared.Verdict.TheVariants.{Fit as FitOf};
+ghost use Rattle.model.specs.Scenarios.{places, worst};
+ghost use Rattle.verdicts.specs.Tests.{IsVerdict, found};
 
-use crate::rows::raise;
-use crate::scenario::{lo_ends, plays_in, scenario_of, times_in};
-use columns::Columns;
+use crate::published::Test;
 use measures::misses;
-use model::{Assessed, Judged, Judgement, Miss, Set, Verdict};
-use runs::execute;
+use model::{Assessed, Judged, Level, Miss, Verdict};
+use rules::jobs::members;
 
-// The fit answer, with the worst finishes given.
-fn fit_with(worsts: [u16; 64]) -> Assessed
-    ensures { result ≡ fit_with worsts }
-{
-    let judged = Judged {
-        judgement: Judgement::Found(Verdict::Fit),
-        times: [0u16; 64],
-    };
-    Assessed { judged, worsts }
-}
-
-// The answer where job + 1 ends at the finish given, late, in scenario x.
-fn unfit_in(x: usize, job: usize, finish: u16, times: [u16; 64]) -> Assessed
-    requires { (x ≤ 64) × (job < 64) }
-    ensures { result ≡ unfit_in x job finish times }
-{
-    let scenario = scenario_of(x);
-    let miss = Miss {
-        scenario,
-        job: job as u16 + 1,
-        finish,
-    };
-    let judged = Judged {
-        judgement: Judgement::Found(Verdict::Unfit(miss)),
-        times,
-    };
-    Assessed {
-        judged,
-        worsts: [0u16; 64],
-    }
-}
-
-// The verdict, with the times and the worst finishes beside it. A miss leaves the loop over the jobs and the loop over the scenarios together; a
-// scenario without one raises the worst finishes, which begin as those of scenario 0.
-pub fn search(s: Set, k: Columns) -> Assessed
-    requires { Prepared s k }
-    ensures { result ≡ found (view_of k) }
-{
-    let n = k.n;
-    let ends = lo_ends(s, k);
-    let mut worsts = ends;
-    let mut x: usize = 0;
-    let mut job: usize = 0;
-    let mut finish: u16 = 0;
-    let mut times = [0u16; 64];
-    'search: while x <= n {
-        if plays_in(k, x) {
-            times = times_in(k, x, ends);
-            let r = execute(s, times);
-            job = 0;
-            while job < n {
-                let switch = r.switch;
-                finish = r.finishes[job];
-                if misses(k.critical[job], k.deadlines[job], finish, switch) {
-                    break 'search;
+impl Test {
+    // The verdict, with the times and the worst finishes beside it. A miss leaves the loop over the jobs and the loop over the scenarios together; a
+    // scenario without one raises the worst finishes, which begin as those of scenario 0.
+    pub fn search(&self) -> Assessed
+        ensures { result ≡ found (view self.now.set) }
+    {
+        let mut worsts = self.ends;
+        let verdict = 'search: {
+            for x in 0..=self.set.count {
+                if let Some(scenario) = self.scenario(x) {
+                    let ran = self.run(scenario);
+                    for (i, job) in members(&self.set).iter().enumerate() {
+                        let finish = ran.finishes[i];
+                        if misses(job.level == Level::Hi, job.deadline, finish, ran.switch) {
+                            break 'search Verdict::Unfit(Miss {
+                                scenario,
+                                job: i as u16 + 1,
+                                finish,
+                            });
+                        }
+                    }
+                    self.raise(&mut worsts, &ran.finishes);
                 }
-                job += 1;
             }
-            let raised = raise(k, worsts, r.finishes);
-            worsts = raised;
+            Verdict::Fit
+        };
+        self.answer(verdict, worsts)
+    }
+
+    // The answer with a verdict, which gives it a failing scenario's times, or else the worst finishes.
+    fn answer(&self, verdict: Verdict, worsts: [u16; 64]) -> Assessed
+        requires verdict_is { IsVerdict (view self.now.set) verdict }
+        requires worsts_are { verdict ≡ FitOf → worsts ≡ places (view self.now.set) (worst (view self.now.set)) }
+        ensures { result ≡ found (view self.now.set) }
+    {
+        let judgement = Ok(verdict);
+        match verdict {
+            Verdict::Fit => Assessed {
+                judged: Judged {
+                    judgement,
+                    times: [0u16; 64],
+                },
+                worsts,
+            },
+            Verdict::Unfit(miss) => {
+                let times = self.times(miss.scenario);
+                Assessed {
+                    judged: Judged { judgement, times },
+                    worsts: [0u16; 64],
+                }
+            },
         }
-        x += 1;
     }
-    if x <= n {
-        return unfit_in(x, job, finish, times);
-    }
-    fit_with(worsts)
 }

@@ -1,14 +1,13 @@
-use native.Mathlib.Omega.{arith}
-use Rattle.model.specs.Sets.{blank, job}
-use Rattle.columns.proofs.Jobs.{filled_zero, filled_more, filled_all}
+use Rattle.std.proofs.Common.{rules}
+use mathlib.Core.Path.{◌∙◌}
+use Rattle.columns.proofs.Jobs.{columns_zero, columns_more, columns_all}
 use Rattle.columns.proofs.columns_of.Goals as goal
 
 pub loop-i-init : goal.loop-i-init
-loop-i-init c = (omega arith, filled_zero _)
+loop-i-init c = columns_zero _
 
 pub loop-i-preserved : goal.loop-i-preserved
-unfolding blank job
-loop-i-preserved c = (omega arith, filled_more _ _ _ _ _ _ _ c.loop-i.invariant.1 _ (omega arith) (omega arith) c.is_hi.ensures)
+loop-i-preserved c = columns_more _ _ _ _ _ _ c.loop-i.invariant (search rules) c.min.ensures c.loop-i-test.true c.eq.ensures
 
 pub returns : goal.returns
-returns c = filled_all _ _ _ _ _ _ _ c.loop-i.invariant.1 (omega arith)
+returns c = c.loop-i.invariant ∙ columns_all _ _ _ (search rules) c.min.ensures c.loop-i.auto.i-end c.loop-i-test.false

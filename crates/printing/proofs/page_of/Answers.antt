@@ -1,9 +1,10 @@
 -- `page_of` meets its contract: refused as the text is, or as the set is judged.
+use mathlib.Core.Path.{sym, ◌∙◌}
 use Rattle.printing.proofs.PageLaws.{refused-printed, judged-printed}
 use Rattle.printing.proofs.page_of.Goals as goal
 
-pub returns-then-refusal-ne-GOOD : goal.returns-then-refusal-ne-GOOD
-returns-then-refusal-ne-GOOD c = refused-printed _ _ c.if-refusal-ne-GOOD.true c.refused_page.ensures
+pub returns-in-Ok : goal.returns-in-Ok
+returns-in-Ok c = judged-printed _ _ (sym c.in-Ok.is ∙ c.check.ensures) c.judged_page.ensures
 
-pub returns : goal.returns
-returns c = judged-printed _ _ c.if-refusal-ne-GOOD.false c.judged_page.ensures
+pub returns-in-Err : goal.returns-in-Err
+returns-in-Err c = refused-printed _ _ _ (sym c.in-Err.is ∙ c.check.ensures) c.refused.ensures

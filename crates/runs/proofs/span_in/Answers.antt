@@ -4,4 +4,4 @@ use Rattle.laws.proofs.Checks.{passes_sound}
 use Rattle.runs.proofs.span_in.Goals as goal
 
 pub overflow_cast-result : goal.overflow_cast-result
-overflow_cast-result c = omega (arith, (passes_sound c.args.s c.requires).bounded, c.span_of.ensures)
+overflow_cast-result c = omega (arith, (passes_sound c.args.s.now c.requires).bounded, c.span_of.ensures)

@@ -1,30 +1,36 @@
-use mathlib.Core.Path.{ap}
-use native.Mathlib.Omega.{arith}
-use Rattle.model.specs.Lists.{total, largest}
-use Rattle.model.specs.Sets.{span, view, blank, job}
-use Rattle.laws.proofs.Members.{job_at_lem, members-from, from_end, total-step, largest_step}
+-- `spans::span_of` meets its contract: the chains run over the jobs that take part, of which there are 64 at most, each with a budget of 16 bits, so
+-- that no sum wraps. Assumes nothing.
+use Rattle.std.proofs.Common.{rules, ◌≡◌, ◌∙◌, refl, ap, arith}
+use Rattle.std.proofs.lemmas.Iterator.{YieldsList-from_slice, YieldsList-from_map}
+use Rattle.std.proofs.lemmas.Iterator.Adapters.{fits_from_length, at_most_from_yields_List}
+use Rattle.std.proofs.lemmas.Iterator.Consumers.{reduce_from_yields_List}
+use Rattle.std.proofs.lemmas.List.Folds.{max_of_map}
+use Rattle.std.specs.List.{sum_by}
+use Rattle.std.specs.Option.{unwrap_or}
+use Rattle.std.specs.Ordering.{nat_cmp, max_by_ordering}
+use Rattle.model.specs.declared.Job.{Job}
+use Rattle.model.specs.Sets.{view, span}
 use Rattle.spans.proofs.span_of.Goals as goal
+use borrow.Author.Tests.{tests}
+use Rattle.rules.proofs.Members.{largest_of_jobs, total_of_jobs}
 
-pub loop-i-init : goal.loop-i-init
-loop-i-init c = let v = view c.args.s in
-    let e = members-from c.args.s c.places-n.result c.places-n.ensures in
-    omega (arith, ap (largest v.policy.arrival) e, ap (total v.hi) e)
-
-pub loop-i-preserved : goal.loop-i-preserved
-unfolding view blank job
-loop-i-preserved c = let s = c.args.s in
-    let i = c.loop-i.i in
-    let e = job_at_lem s i (omega arith) in
-    omega (
-      arith,
-      ap (λ j. j.arrival) e,
-      ap (λ j. j.hi) e,
-      largest_step (view s).policy.arrival i c.places-n.result (omega arith),
-      total-step (view s).hi i c.places-n.result (omega arith),
-    )
+pub sum-work-requires-clause-fits : goal.sum-work-requires-clause-fits
+sum-work-requires-clause-fits c =
+    fits_from_length _ _ 64 _ (at_most_from_yields_List (YieldsList-from_slice c.members-jobs.result.now cc) (omega arith)) c.map-2.ensures.closure (omega arith)
+    (λ x r q k. search (rules, tests))
 
 pub returns : goal.returns
-unfolding span total largest
-returns c = let v = view c.args.s in
-    let e = from_end c.loop-i.i c.places-n.result c.loop-i-test.false in
-    omega (arith, ap (largest v.policy.arrival) e, ap (total v.hi) e)
+unfolding span view
+returns c =
+    let jobs = c.members-jobs.result.now in
+    let latest =
+    c.unwrap_or-latest.ensures
+    ∙ ap (λ m. unwrap_or m 0)
+    (reduce_from_yields_List (λ p z. max_by_ordering (nat_cmp p z) p z) _ _ c.max.ensures.ran
+    (YieldsList-from_map _ (λ (j : Job). j.arrival) (YieldsList-from_slice jobs cc) c.map.ensures.closure (λ x r q k. search rules)))
+    ∙ max_of_map (λ (j : Job). j.arrival) jobs in
+    let work : c.sum-work.result ≡ sum_by (λ (j : Job). j.hi) jobs = search rules in
+    let taken = c.members-jobs.ensures in
+    rw
+    (largest_of_jobs c.args.s jobs taken.jobs taken.count (λ j. j.arrival), total_of_jobs c.args.s jobs taken.jobs taken.count (λ j. j.hi), c.from.ensures, c.from-2.ensures, latest, work)
+    refl

@@ -1,35 +1,17 @@
-use Prim.Native.Nat.{◌+◌}
-use mathlib.Core.Path.{◌≡◌, sym, ◌∙◌, ap}
-use native.Mathlib.Omega.{arith}
-use Rattle.model.specs.Lists.{first}
-use Rattle.model.specs.Sets.{blank, job}
-use Rattle.laws.proofs.Members.{job_at_lem, members-from, from_end, first_pass, first_fail}
-use Rattle.rules.specs.Rules.{breaks, breaks_at}
+-- `checks::jobs::lowest` meets its contract: the place of the first job that breaks the rule, from 1, is its number.
+use Rattle.std.proofs.Common.{rules, ◌≡◌, ◌+◌, ◌∙◌, sym, ap}
+use Rattle.std.specs.Option.{option_map}
+use Rattle.std.proofs.lemmas.Iterator.{YieldsList-from_slice}
+use Rattle.std.proofs.lemmas.Iterator.Adapters.{position_from-zero}
+use Rattle.std.proofs.lemmas.Iterator.Search.{position_from_yields_List}
+use Rattle.rules.proofs.Members.{first_of_jobs}
 use Rattle.checks.proofs.jobs.lowest.Goals as goal
 
-pub loop-i-init : goal.loop-i-init
-loop-i-init c = let a = c.args in
-    (omega arith, ap (first (breaks_at a.number a.s)) (members-from a.s c.places-n.result c.places-n.ensures))
-
-pub returns-then-breaks : goal.returns-then-breaks
-unfolding breaks_at blank job
-returns-then-breaks c =
-    let a = c.args in
-    let broken : breaks_at a.number a.s (c.loop-i.i + 1) ≡ c.breaks.result =
-    ap (breaks a.number) (job_at_lem a.s c.loop-i.i (omega arith)) ∙ sym c.breaks.ensures in
-    sym (c.loop-i.invariant.1 ∙ first_pass (breaks_at a.number a.s) c.loop-i.i c.places-n.result (omega arith) (broken ∙ c.if-breaks.true))
-
-pub loop-i-preserved : goal.loop-i-preserved
-unfolding breaks_at blank job
-loop-i-preserved c =
-    let a = c.args in
-    let broken : breaks_at a.number a.s (c.loop-i.i + 1) ≡ c.breaks.result =
-    ap (breaks a.number) (job_at_lem a.s c.loop-i.i (omega arith)) ∙ sym c.breaks.ensures in
-    (omega arith, c.loop-i.invariant.1 ∙ first_fail (breaks_at a.number a.s) c.loop-i.i c.places-n.result (omega arith) (broken ∙ c.if-breaks.false))
-
 pub returns : goal.returns
-unfolding first
-returns c =
-    let a = c.args in
-    sym (c.loop-i.invariant.1
-    ∙ ap (first (breaks_at a.number a.s)) (from_end c.loop-i.i c.places-n.result c.loop-i-test.false))
+returns g c = λ rule h.
+    let jobs = c.members.result.now in
+    let found =
+    position_from_yields_List rule _ _ c.position.result c.position.ensures.ran (YieldsList-from_slice jobs cc) (λ x b q k. search (rules, h))
+    ∙ position_from-zero rule jobs in
+    let e : c.map.result ≡ option_map (λ i. i + 1) c.position.result = search rules in
+    e ∙ ap (option_map (λ i. i + 1)) found ∙ sym (first_of_jobs c.args.s.now jobs c.members.ensures.jobs c.members.ensures.count rule)

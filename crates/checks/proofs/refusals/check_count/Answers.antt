@@ -1,21 +1,18 @@
 -- `checks::refusals::check_count` meets its contract: the tests are those of the definition, with the HI jobs counted. Assumes nothing.
-use Prim.Native.Nat.{ℕ}
-use mathlib.Core.Bool.{Bool, not, ◌||◌}
-use mathlib.Core.Path.{◌≡◌, ◌∙◌, ap}
-use lib.Dec.{eqb, ltb}
-use Rattle.model.specs.declared.Set.{Set}
+use Rattle.std.proofs.Common.{rules, ◌≡◌, ◌∙◌, ap, not, ◌||◌, eqb, length, arith}
+use lib.Dec.{ltb}
+use Rattle.std.specs.Bool.{then_some}
 use Rattle.model.specs.Sets.{view, count_of}
-use Rattle.model.specs.Refusals.{applies, check_count}
+use Rattle.model.specs.Scenarios.{hi_jobs}
+use Rattle.model.specs.Refusals.{check_count}
+use Rattle.checks.specs.Places.{refused}
+use Rattle.checks.proofs.Firsts.{refused_where}
 use Rattle.checks.proofs.refusals.check_count.Goals as goal
 
--- N and the counts are wrong, where k jobs are HI jobs
-wrong : Set → ℕ → Bool
-wrong s k =
-    let n = s.count in
-    eqb n 0 || (ltb 64 n || (not (eqb s.lo.count n) || not (eqb s.hi.count k)))
-
 pub returns : goal.returns
-unfolding check_count view count_of wrong
-returns c = let s = c.args.s in
-    let e : c.applies.result ≡ applies 2 s.count (wrong s c.hi_jobs-found.result) = c.applies.ensures in
-    e ∙ ap (λ k. applies 2 s.count (wrong s k)) c.hi_jobs-found.ensures
+unfolding check_count view count_of
+returns c =
+    let s = c.args.s.now in
+    let n = s.count in
+    let e : c.if-s-n.wrong ≡ (eqb n 0 || (ltb 64 n || (not (eqb s.lo.count n) || not (eqb s.hi.count (length (hi_jobs (view s))))))) = search rules in
+    c.refuse.ensures ∙ ap (refused 2) (c.then_some.ensures ∙ ap (λ b. then_some b n) e) ∙ refused_where 2 n _ (omega arith)

@@ -1,10 +1,14 @@
 -- `unfit_page` meets its contract: the first line, then the running times.
-use Rattle.printing.proofs.JobLaws.{good-count}
-use Rattle.printing.proofs.PageLaws.{unfit_answer_lem}
+use Rattle.std.proofs.Common.{rules}
+use Rattle.model.specs.Printed.{unfit_text}
+use Rattle.pages.specs.Lines.{miss_line}
+use Rattle.pages.proofs.Puts.{put-page}
+use Rattle.printing.proofs.JobLaws.{good-count, times_are}
 use Rattle.printing.proofs.lines.unfit_page.Goals as goal
 
-pub with_times-requires : goal.with_times-requires
-with_times-requires c = good-count _ c.requires
+pub shared_ref_as_front-with_times : goal.shared_ref_as_front-with_times
+shared_ref_as_front-with_times c = (good-count _ c.requires).1
 
 pub returns : goal.returns
-returns c = unfit_answer_lem _ c.requires _ _ _ _ c.miss_page.ensures c.with_times.ensures
+unfolding unfit_text miss_line
+returns c = rw (c.with_times.ensures, c.missed.ensures, times_are _ c.requires c.args.times.now (search rules)) (put-page _ _)

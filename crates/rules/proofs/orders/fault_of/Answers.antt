@@ -1,46 +1,59 @@
 use Prim.Native.Nat.{ℕ, ◌+◌, min}
-use mathlib.Core.Bool.{Bool, not, ◌||◌}
+use mathlib.Core.Bool.{Bool}
 use mathlib.Core.List.{List}
 use mathlib.Core.Path.{◌≡◌, refl, sym, ◌∙◌, ap}
+use native.Mathlib.Numerals.{add-one}
 use native.Mathlib.Omega.{arith}
-use Rattle.model.specs.Lists.{mem, cut}
+use lib.ListN.{length, take, drop}
+use Rattle.std.proofs.Common.{Some}
+use Rattle.std.proofs.lemmas.List.{drop_all}
+use Rattle.model.specs.Lists.{cut}
 use Rattle.model.specs.Refusals.{fault_from, fault}
-use Rattle.laws.proofs.Members.{cut-end}
-use Rattle.rules.specs.Rules.{marked}
-use Rattle.rules.proofs.Faults.{fault-found, fault_passed}
+use Rattle.rules.specs.Rules.{marked, nonzero}
+use Rattle.rules.proofs.Faults.{cut_is_take, mem_is_any, unfit, repeats, fault_passed}
 use Rattle.rules.proofs.orders.fault_of.Goals as goal
+use Rattle.rules.proofs.orders.fault_of.Goals.{then-not-marked-via-then-not-marked, then-not-marked-via-else-not-marked+then-contains}
 
 -- the order is cut at the places that its count has
-counted : (ok : List Bool) (l : List ℕ) (k n : ℕ) → n ≡ min k 64 → fault (marked ok) (cut 0 (min k 64) l) ≡ fault (marked ok) (cut 0 n l)
-counted ok l k n e = let p : min k 64 ≡ n = sym e in rw p
+counted : (ok : List Bool) (l : List ℕ) (k n : ℕ) → n ≡ min k 64 → length l ≡ 64
+    → fault (marked ok) (cut 0 (min k 64) l) ≡ fault (marked ok) (take n l)
+counted ok l k n e h = rw (sym e) (ap (fault (marked ok)) (cut_is_take n l (omega arith)))
 
--- whether an entry is a fault
-wrong : (ok : List Bool) (x : ℕ) (l : List ℕ) (a b : Bool) → a ≡ marked ok x → b ≡ mem x l
-    → (not (marked ok x) || mem x l) ≡ (not a || b)
-wrong ok x l a b p q = rw (p, q)
+at_number : (i k : ℕ) → k ≡ i + 1 → Some (i + 1) ≡ nonzero k
+unfolding nonzero
+at_number i k e = rw (e, add-one) refl
 
 pub loop-i-init : goal.loop-i-init
-unfolding fault cut
-loop-i-init c = (omega arith, refl)
+unfolding fault
+loop-i-init c = refl
 
-pub returns-then-marked-stands : goal.returns-then-marked-stands
-returns-then-marked-stands c =
+pub returns-then-not-marked : goal.returns-then-not-marked
+returns-then-not-marked c =
     let a = c.args in
-    sym (counted a.ok a.o.entries a.o.count c.places-n.result c.places-n.ensures ∙ c.loop-i.invariant.1
-    ∙ fault-found (marked a.ok) a.o.entries c.loop-i.i c.places-n.result (omega arith) (wrong _ _ _ _ _ c.marked.ensures c.stands.ensures ∙ c.if-marked-stands.true))
+    let ok = marked a.ok.now in
+    let order = take c.places.result a.o.now.entries in
+    let i = c.loop-i.i in
+    let e : fault ok (cut 0 (min a.o.now.count 64) a.o.now.entries) ≡ fault_from ok (take i order) (i + 1) (drop i order) =
+    counted a.ok.now a.o.now.entries a.o.now.count c.places.result c.places.ensures (omega arith) ∙ c.loop-i.invariant in
+    at_number i _
+    (e ∙ elim c.then-not-marked.branch [
+      | then-not-marked-via-then-not-marked w ↦ unfit ok order i c.loop-i-test.true (sym w.if-not-marked.ensures)
+      | then-not-marked-via-else-not-marked+then-contains w ↦ repeats ok order i c.loop-i-test.true (sym (mem_is_any _ _) ∙ sym w.if-contains.ensures.value)
+    ])
 
 pub loop-i-preserved : goal.loop-i-preserved
 loop-i-preserved c =
-    let a = c.args in (
-      omega arith,
-      c.loop-i.invariant.1
-          ∙ fault_passed (marked a.ok) a.o.entries c.loop-i.i c.places-n.result (omega arith) (wrong _ _ _ _ _ c.marked.ensures c.stands.ensures ∙ c.if-marked-stands.false),
-    )
+    c.loop-i.invariant
+    ∙ fault_passed (marked c.args.ok.now) (take c.places.result c.args.o.now.entries) c.loop-i.i c.loop-i-test.true (sym c.if-not-marked.ensures)
+    (sym (mem_is_any _ _) ∙ sym c.if-contains.ensures.value)
 
 pub returns : goal.returns
-unfolding fault_from
+unfolding nonzero fault_from
 returns c =
     let a = c.args in
-    sym (counted a.ok a.o.entries a.o.count c.places-n.result c.places-n.ensures ∙ c.loop-i.invariant.1
-    ∙ ap (fault_from (marked a.ok) (cut 0 c.loop-i.i a.o.entries) (c.loop-i.i + 1))
-    (cut-end 0 a.o.entries c.loop-i.i c.places-n.result c.loop-i-test.false))
+    let ok = marked a.ok.now in
+    let order = take c.places.result a.o.now.entries in
+    let i = c.loop-i.i in
+    let e : fault ok (cut 0 (min a.o.now.count 64) a.o.now.entries) ≡ fault_from ok (take i order) (i + 1) (drop i order) =
+    counted a.ok.now a.o.now.entries a.o.now.count c.places.result c.places.ensures (omega arith) ∙ c.loop-i.invariant in
+    rw (e, drop_all i order c.loop-i-test.false) refl

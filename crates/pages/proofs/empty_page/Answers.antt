@@ -1,8 +1,0 @@
--- `empty_page` meets its contract: room of 1,024 bytes, all 0, none of them written.
-use mathlib.Core.Path.{refl}
-use Rattle.pages.specs.Pages.{size, page}
-use Rattle.pages.proofs.empty_page.Goals as goal
-
-pub returns : goal.returns
-unfolding page size
-returns c = refl

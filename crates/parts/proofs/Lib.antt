@@ -1,2 +1,0 @@
--- Laws that the proofs of the part cite.
-pub mod PartLaws
