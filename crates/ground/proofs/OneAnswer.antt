@@ -14,12 +14,13 @@ use Rattle.model.specs.declared.Level.{Level}
 use Rattle.model.specs.declared.Job.{Job}
 use Rattle.model.specs.declared.Order.{Order}
 use Rattle.model.specs.declared.Set.{Set}
+use Rattle.model.specs.declared.Check.{Check}
 use Rattle.model.specs.declared.Refusal.{Refusal}
 use Rattle.model.specs.declared.Ran.{Ran}
 use Rattle.model.specs.declared.Judged.{Judged}
 use Rattle.model.specs.declared.Assessed.{Assessed}
 use Rattle.columns.specs.declared.Columns.{Columns}
-use Rattle.ground.specs.Promises.{IsHi, Untimely, Unbudgeted, Places, Members, FaultOf, Told, Checked, Checks, RefusalOf, SpanOf, ColumnsOf, Orders, ChecksRoom, Assesses, Judges, FinishRows, RowsRefusal, WorstFinishes, Margins, Executes, Slots}
+use Rattle.ground.specs.Promises.{IsHi, Untimely, Unbudgeted, Places, Members, FaultOf, Refuses, Told, Checked, Checks, RefusalOf, SpanOf, ColumnsOf, Orders, ChecksRoom, Assesses, Judges, FinishRows, RowsRefusal, WorstFinishes, Margins, Executes, Slots}
 use Rattle.ground.specs.Promises.{Picks, Parts, PartRefusal, MakesTables, InRange, Outruns, IsEnabled, Misses, Worse, MarginOf}
 
 pub one : {A : Type 0} {x y z : A} → x ≡ z → y ≡ z → x ≡ y
@@ -51,6 +52,9 @@ fault_of_one ok o x y p q = one p.3 q.3
 -- checks and columns ------------------------------------------------------------------------------------------------------------------
 
 -- The result of the checks: nothing, or the refusal.
+pub refuses_one : (c : Check) (k : Option ℕ) (x y : Result (Unit {0}) Refusal) → Refuses c k x → Refuses c k y → x ≡ y
+refuses_one c k x y p q = one p q
+
 pub told_one : (r : Result (Unit {0}) Refusal) (x y : Refusal) → Told r x → Told r y → x ≡ y
 told_one r x y p q = one p q
 

@@ -7,7 +7,7 @@ ghost use Rattle.model.specs.Texts.{level_number, no_set};
 ghost use Rattle.forms.specs.Forms.{job_of};
 ghost use Rattle.readings.specs.Readings.{answer, refused_at};
 
-use model::{Job, Level, Order, Reading, Refusal, Set, TEXT};
+use model::{Check, Job, Level, Order, Reading, Refusal, Set};
 
 // The number of a level.
 #[tactic(auto, unfolding(model::specs::Texts::level_number))]
@@ -82,5 +82,5 @@ pub fn answer(number: u8, place: usize, set: Set) -> Reading
 pub fn refused(place: usize) -> Reading
     ensures { result ≡ refused_at place }
 {
-    answer(TEXT, place, no_set())
+    answer(Check::Text as u8, place, no_set())
 }

@@ -14,7 +14,7 @@ mod range;
 use checks::{check, span_of};
 use columns::columns_of;
 use engine::{Progress, Run};
-use model::{ROOM, Ran, Refusal, Set};
+use model::{Check, Ran, Refusal, Set};
 
 // The span of a set that passes the checks.
 fn span_in(s: &Set) -> u16
@@ -50,7 +50,7 @@ fn executed(s: &Set, times: &[u16; 64]) -> Result<Ran, Refusal>
         ..
     } = run.to_span(span_in(s), &mut []);
     Ok(Ran {
-        refusal: Refusal::from(Ok(())),
+        refusal: Refusal::GOOD,
         finishes,
         switch,
     })
@@ -65,18 +65,12 @@ pub fn execute(s: Set, times: [u16; 64]) -> Ran
 }
 
 // Refuses, by 8, tables of lengths `lo` and `hi` where one of them is shorter than the set's span.
-#[tactic(auto, unfolding(model::specs::Refusals::check_room, model::specs::Refusals::applies, model::specs::Refusals::checked, model::specs::Refusals::is_good, model::specs::Refusals::good))]
+#[tactic(auto, unfolding(model::specs::Refusals::check_room, model::specs::Refusals::refused, model::specs::Refusals::applies, model::specs::Refusals::checked, model::specs::Refusals::is_good, model::specs::Refusals::good))]
 pub fn check_room(s: &Set, lo: usize, hi: usize) -> Result<(), Refusal>
     ensures { result ≡ checked (check_room (view s.now) lo hi) }
 {
-    let place = span_of(*s);
-    if (lo.min(hi) as u64) < place {
-        return Err(Refusal {
-            number: ROOM,
-            place,
-        });
-    }
-    Ok(())
+    let span = span_of(*s);
+    Check::Room.refuse(((lo.min(hi) as u64) < span).then_some(span))
 }
 
 // Writes who gets each slot of one given run into the room lent, or refuses: 8 after 2 to 7, and then 9.
