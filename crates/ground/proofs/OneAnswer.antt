@@ -5,6 +5,10 @@
 --   FN-one  == the promise of the function FN admits one answer
 -- Assumes nothing.
 use Rattle.std.specs.Prelude.{Option, Result}
+use Rattle.std.specs.declared.clone.Clone.{Ghosts as Clones}
+use denote.RattleType.{RattleType}
+use denote.Param.Laws.{Laws, IsCopy}
+use mir.Syntax.{Dict}
 use Prim.Native.Nat.{ℕ}
 use mathlib.Core.Path.{◌≡◌, sym, ◌∙◌}
 use mathlib.Core.Bool.{Bool}
@@ -20,11 +24,18 @@ use Rattle.model.specs.declared.Ran.{Ran}
 use Rattle.model.specs.declared.Judged.{Judged}
 use Rattle.model.specs.declared.Assessed.{Assessed}
 use Rattle.columns.specs.declared.Columns.{Columns}
-use Rattle.ground.specs.Promises.{IsHi, Untimely, Unbudgeted, Places, Members, FaultOf, Refuses, Told, Checked, Checks, RefusalOf, SpanOf, ColumnsOf, Orders, ChecksRoom, Assesses, Judges, FinishRows, RowsRefusal, WorstFinishes, Margins, Executes, Slots}
+use Rattle.ground.specs.Promises.{IsHi, Untimely, Unbudgeted, Places, Members, FaultOf, Held, Refuses, Told, Checked, Checks, RefusalOf, SpanOf, ColumnsOf, Orders, ChecksRoom, Assesses, Judges, FinishRows, RowsRefusal, WorstFinishes, Margins, Executes, Slots}
 use Rattle.ground.specs.Promises.{Picks, Parts, PartRefusal, MakesTables, InRange, Outruns, IsEnabled, Misses, Worse, MarginOf}
 
 pub one : {A : Type 0} {x y z : A} → x ≡ z → y ≡ z → x ≡ y
 one p q = p ∙ sym q
+
+-- model -------------------------------------------------------------------------------------------------------------------------------
+
+-- What a list of any type T holds for a job.
+pub held_one : (T : RattleType) (laws : Laws T) (copy : IsCopy T) (clones : Clones T.Denot) (dict : Dict)
+    (l : List T.Denot) (j : ℕ) (x y : Option T.Denot) → Held T laws copy clones dict l j x → Held T laws copy clones dict l j y → x ≡ y
+held_one T laws copy clones dict l j x y p q = one p.2 q.2
 
 -- rules -------------------------------------------------------------------------------------------------------------------------------
 

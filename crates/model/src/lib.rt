@@ -5,6 +5,8 @@ ghost use Rattle.std.specs.Prelude.{◌≡◌};
 ghost use Rattle.model.specs.Refusals.{told, checked, refused, number_of};
 ghost use Rattle.model.specs.Printed.{scenario_number};
 
+pub mod places;
+
 // A job's level of criticality. The mode of a run is one of the same two.
 #[derive(Clone, Copy, PartialEq, Eq)]
 pub enum Level {
