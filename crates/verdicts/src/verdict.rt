@@ -21,8 +21,11 @@ impl Test {
             for x in 0..=self.set.count {
                 if let Some(scenario) = self.scenario(x) {
                     let ran = self.run(scenario);
-                    for (i, job) in members(&self.set).iter().enumerate() {
-                        let finish = ran.finishes[i];
+                    for (i, (job, &finish)) in members(&self.set)
+                        .iter()
+                        .zip(&ran.finishes)
+                        .enumerate()
+                    {
                         if misses(job.level == Level::Hi, job.deadline, finish, ran.switch) {
                             break 'search Verdict::Unfit(Miss {
                                 scenario,
