@@ -30,7 +30,7 @@ fn order_of(numbers: &Numbers) -> Order {
     }
 }
 
-// Gives the set the three counts of a line.
+// Gives the set the three counts of a line. (Each is cast: there is no `From` for `usize`, and `try_from` would want an answer to an error that never comes.)
 fn set_counts(set: &mut Set, numbers: &Numbers) {
     set.count = nth(numbers, 0) as usize;
     set.lo.count = nth(numbers, 1) as usize;

@@ -13,6 +13,7 @@ use columns::columns_of;
 use input::{text_in, times_in};
 use input_bytes::read_full;
 use model::{Refusal, Set};
+use pages::Page;
 use plan_text::read;
 use std::io;
 use std::io::Write;
@@ -48,7 +49,7 @@ fn first_of(values: &[u16], n: usize) -> List<'_, u16> {
 
 // The line of a refusal.
 fn show_refusal<W: Write>(out: &mut W, refusal: Refusal) -> io::Result<()> {
-    writeln!(out, "REFUSED {} {}", refusal.number, refusal.place)
+    out.write_all(Page::refused(refusal).shown())
 }
 
 // The lines of a run that is not refused, with its slots.
