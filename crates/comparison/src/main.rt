@@ -45,7 +45,7 @@ fn read_cases<'a>(rt: &HostRuntime, room: &'a mut [u8; ROOM]) -> io::Result<&'a 
     }
 }
 
-// Goes through the lines: `rest` is the text from a line on.
+// Goes through the lines: `rest` is the text from a line on. (No `for` over `split`: a question needs the text from a line on and behind one, and `split` gives lines alone.)
 fn compare<W: Write>(out: &mut W, alloc: Global, text: &[u8]) -> io::Result<()> {
     let mut answer = Vec::new(alloc);
     let mut set = no_set();

@@ -44,7 +44,7 @@ fn write_run<W: Write>(out: &mut W, set: &Set, times: &[u16; 64]) -> io::Result<
     )
 }
 
-// Who gets a slot.
+// Who gets a slot. (The arrivals are mapped here: `columns_of` makes arrays of the other columns too, which the pick does not read.)
 fn write_pick<W: Write>(out: &mut W, set: &Set, slot: u16, done: &[bool]) -> io::Result<()> {
     let arrivals = set.jobs.map(|job| job.arrival);
     let entries = &set.lo.entries;

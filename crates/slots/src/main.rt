@@ -52,7 +52,7 @@ fn show_refusal<W: Write>(out: &mut W, refusal: Refusal) -> io::Result<()> {
     out.write_all(Page::refused(refusal).shown())
 }
 
-// The lines of a run that is not refused, with its slots.
+// The lines of a run that is not refused, with its slots. (The span is cast: it is a place in the table, of 4,096 at most.)
 fn show_run<W: Write>(out: &mut W, set: &Set, times: &[u16; 64], table: &[u16]) -> io::Result<()> {
     let ran = execute(*set, *times);
     writeln!(out, "times{}", first_of(times, set.count))?;
