@@ -82,6 +82,7 @@ pub fn hi_table(k: &Columns, span: usize, lo: &[u16], table: &mut [u16])
     };
     for (t, slot) in lo[..span].iter().enumerate() {
         let j = had.pick(k, *slot);
+        // by index: tried `table.iter_mut().zip(&lo[..span])`, and the two in the other order; past a `zip` of `iter_mut` a proof has no name for the table
         table[t] = j;
         count(&mut had.lo, *slot);
         count(&mut had.hi, j);
