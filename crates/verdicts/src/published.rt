@@ -1,5 +1,7 @@
 // A set under the published test: one that passes the checks, with the finishes of scenario 0, from which the running times of every other scenario
 // follow.
+// An array is filled by the places of the jobs: past `iter_mut().zip(..)` a proof knows nothing of the values. Tried for `lo_times`: `array::from_fn`;
+// the proof didn't close, since no search found the result in the clause inferred of the closure.
 ghost use Rattle.std.specs.Prelude.{◌≡◌, ◌≤◌, true};
 ghost use Rattle.model.specs.declared.Scenario.TheVariants.{Lo as LoOf};
 ghost use Rattle.model.specs.Sets.{view};
