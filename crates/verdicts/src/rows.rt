@@ -1,6 +1,6 @@
 // Finish rows, worst finishes and margins of a set under test.
 // The scenarios are gone through by number, here and in the search, as a row's place and the invariants have them. Tried for `worsts`: `filter_map` in
-// the `for`; the proof didn't close, since its items are scenarios without numbers.
+// the `for`; its items are scenarios without numbers, and the goals of the loop, which go by number, stayed open.
 // An array is filled by the places of the jobs, as published.rt says.
 ghost use Rattle.std.specs.Prelude.{◌≡◌};
 ghost use Rattle.model.specs.Sets.{view};
