@@ -10,7 +10,7 @@ use rules::jobs::{unbudgeted, untimely};
 use rules::orders::fault_of;
 use spans::span_of;
 
-// Check 2: the counts.
+// Check 2: the counts. (`as`: there is no `u64::from(usize)`.)
 pub fn check_count(s: &Set) -> Result<(), Refusal>
     ensures { result ≡ checked (check_count (view s.now)) }
 {

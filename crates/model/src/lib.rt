@@ -65,7 +65,7 @@ pub struct Refusal {
 }
 
 impl Check {
-    // Refuses with a place, where there is one.
+    // Refuses with a place, where there is one. (`as`: the number that stands beside the variant.)
     #[tactic(auto, unfolding(crate::specs::Refusals::refused, crate::specs::Refusals::number_of))]
     pub fn refuse(self, place: Option<u64>) -> Result<(), Refusal>
         ensures { result ≡ refused (number_of self) place }

@@ -15,7 +15,7 @@ pub fn part(table: &[u16], t: usize) -> &[u16]
     table.get(t..).unwrap_or(&[])
 }
 
-// Refusal 10 where the instant is past the table's end, and good otherwise.
+// Refusal 10 where the instant is past the table's end, and good otherwise. (`as`: there is no `u64::from(usize)`.)
 #[tactic(auto, unfolding(model::specs::Refusals::check_instant, model::specs::Refusals::applies, model::specs::Refusals::refused, model::specs::Refusals::told))]
 pub fn part_refusal(table: &[u16], t: usize) -> Refusal
     ensures { result ≡ check_instant table.now t }

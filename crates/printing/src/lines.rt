@@ -32,7 +32,7 @@ pub struct Passed<'a> {
 }
 
 impl Passed<'_> {
-    // "FIT and the span; then for each job its number, worst finish and margin."
+    // "FIT and the span; then for each job its number, worst finish and margin." (`as`: there is no `u64::from(usize)`.)
     pub fn fit(&self, worsts: &[u16; 64]) -> Page
         requires { worsts.now ≡ worsts_of (view self.now.set.now) }
         ensures { result ≡ page (fit_text (view self.now.set.now)) }

@@ -22,7 +22,7 @@ fn marked(ok: &[bool; 64], x: u16) -> bool
     held(ok, x).unwrap_or(false)
 }
 
-// The first position of the order, from 1, whose entry is not marked or repeats.
+// The first position of the order, from 1, whose entry is not marked or repeats. (`as`: there is no `u64::from(usize)`.)
 pub fn fault_of(ok: &[bool; 64], o: &Order) -> Option<u64>
     ensures { result ≡ nonzero (fault (marked ok.now) (cut 0 (min o.now.count 64) o.now.entries)) }
 {

@@ -16,7 +16,7 @@ use columns::columns_of;
 use engine::{Progress, Run};
 use model::{Check, Ran, Refusal, Set};
 
-// The span of a set that passes the checks.
+// The span of a set that passes the checks. (`as`: it is at most 4,096, so there is no error to handle.)
 fn span_in(s: &Set) -> u16
     requires { is_good (refusal (view s.now)) ≡ true }
     ensures { result ≡ span_of (view s.now) }
@@ -64,7 +64,7 @@ pub fn execute(s: Set, times: [u16; 64]) -> Ran
     executed(&s, &times).unwrap_or_else(not_run)
 }
 
-// Refuses, by 8, tables of lengths `lo` and `hi` where one of them is shorter than the set's span.
+// Refuses, by 8, tables of lengths `lo` and `hi` where one of them is shorter than the set's span. (`as`: there is no `u64::from(usize)`.)
 #[tactic(auto, unfolding(model::specs::Refusals::check_room, model::specs::Refusals::refused, model::specs::Refusals::applies, model::specs::Refusals::checked, model::specs::Refusals::is_good, model::specs::Refusals::good))]
 pub fn check_room(s: &Set, lo: usize, hi: usize) -> Result<(), Refusal>
     ensures { result ≡ checked (check_room (view s.now) lo hi) }

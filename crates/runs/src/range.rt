@@ -8,7 +8,7 @@ use measures::in_range;
 use model::{Check, Refusal};
 
 impl Run<'_> {
-    // Refuses, by 9, the lowest job whose running time lies outside its range.
+    // Refuses, by 9, the lowest job whose running time lies outside its range. (`as`: there is no `u64::from(usize)`.)
     pub fn in_range(&self) -> Result<(), Refusal>
         requires { Testable self.now.k.now }
         ensures { result ≡ checked (check_run (view_of self.now.k.now) self.now.times.now) }

@@ -50,7 +50,8 @@ impl Test {
         Ok(Test { set, ends })
     }
 
-    // The scenario numbered x: 0 is LO, and j is HI of job j, which is one of the set's where j is a HI job.
+    // The scenario numbered x: 0 is LO, and j is HI of job j, which is one of the set's where j is a HI job. (`as`: x is at most 64, so there is no
+    // error to handle.)
     pub fn scenario(&self, x: usize) -> Option<Scenario>
         requires { x ≤ self.now.set.count }
         ensures { result ≡ scenario_at (view self.now.set) x }

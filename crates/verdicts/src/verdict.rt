@@ -12,7 +12,7 @@ use rules::jobs::members;
 
 impl Test {
     // The verdict, with the times and the worst finishes beside it. A miss leaves the loop over the jobs and the loop over the scenarios together; a
-    // scenario without one raises the worst finishes, which begin as those of scenario 0.
+    // scenario without one raises the worst finishes, which begin as those of scenario 0. (`as`: the job is one of 64 at most.)
     pub fn search(&self) -> Assessed
         ensures { result ≡ found (view self.now.set) }
     {
