@@ -5,11 +5,11 @@ ghost use Rattle.answer_text.specs.Words.{refusal_words, miss_words, verdict_wor
 use model::{Miss, Refusal, Verdict};
 use std::fmt;
 
-// A refusal, a miss, a verdict or a judgement in words.
+// A refusal, a miss, a verdict or a judgement in words. (`pages` has lines of a refusal and of a miss, for the judge: this crate stands on `model` alone, and its refusals read otherwise.)
 #[derive(Clone, Copy)]
 pub struct Words<T>(pub T);
 
-// The refusal's number and its place, or that there is none.
+// The refusal's number and its place, or that there is none. Each value of the type has its words, also one that no function answers, as number 0 with another place.
 impl fmt::Display for Words<Refusal> {
     ghost output = { λ w. Some (refusal_words w.0) };
 

@@ -1,5 +1,5 @@
-// An answer of the library as text. `Words`, `Switch`, `Gets`, `List` and `Table` print; the finish rows go to a writer, line by line, and stop with the
-// error of the first write that fails.
+// An answer of the library as text. `Words`, `Switch`, `Gets`, `List` and `Table` print; `Lines` gives a writer an answer's
+// lines, such as the finish rows, and stops with the error of the first write that fails.
 #![tactic(auto)]
 
 mod answers;
@@ -7,5 +7,5 @@ mod lines;
 mod lists;
 
 pub use answers::{Gets, Switch, Words};
-pub use lines::{line, rows};
+pub use lines::Lines;
 pub use lists::{List, Table, of_jobs};

@@ -1,5 +1,5 @@
-// Lines that begin with bytes which need not be text. (A struct of the writer and these bytes would be made for one call, so it is no plainer.)
-ghost use Rattle.std.specs.Prelude.{OnOk, IfSome, ◌∷◌, ◌++◌};
+// Lines that begin with bytes which need not be text.
+ghost use Rattle.std.specs.Prelude.{◌≡◌, OnOk, IfSome, ◌∷◌, ◌++◌};
 ghost use Rattle.std.specs.Io.KnownBytes.{Appends};
 
 use crate::lists::of_jobs;
@@ -7,28 +7,34 @@ use std::fmt::Display;
 use std::io;
 use std::io::Write;
 
-// The end of a line, the bytes that the next begins with, and what `text` prints.
-pub fn line<W: Write, T: Display + Drop>(out: &mut W, begin: &[u8], text: T) -> io::Result<()>
-    ensures bytes { OnOk result (IfSome (T.output text) (λ words. Appends (W.contents out.old) (W.contents out.new) (10 ∷ (begin.now ++ words)))) }
-{
-    out.write_all(b"\n")?;
-    out.write_all(begin)?;
-    write!(out, "{text}")
+// Where the lines of an answer are written, and the bytes that each of them begins with.
+#[derive(Drop)]
+pub struct Lines<'a, W> {
+    pub out: &'a mut W,
+    pub begin: &'a [u8],
 }
 
-// The finish rows 0 to n, a line each, which begins with the bytes of `begin`; of a row that belongs to no job, only what is not 0.
-pub fn rows<W: Write>(
-    out: &mut W,
-    begin: &[u8],
-    rows: &[[u16; 64]; 65],
-    n: usize,
-) -> io::Result<()> {
-    for (x, row) in rows.iter().enumerate() {
-        if x <= n {
-            line(out, begin, format_args!(" row {x}{}", of_jobs(row, n)))?;
-        } else {
-            write!(out, "{}", of_jobs(row, 0))?;
-        }
+impl<W: Write> Lines<'_, W> {
+    // The end of a line, the bytes that the next begins with, and what `text` prints.
+    pub fn line<T: Display + Drop>(&mut self, text: T) -> io::Result<()>
+        ensures bytes { OnOk result (IfSome (T.output text) (λ words. Appends (W.contents self.old.out.now) (W.contents self.new.out.now) (10 ∷ (self.old.begin.now ++ words)))) }
+        ensures same_writer { self.new.out.ghost_name ≡ self.old.out.ghost_name }
+        ensures same_begin { self.new.begin ≡ self.old.begin }
+    {
+        self.out.write_all(b"\n")?;
+        self.out.write_all(self.begin)?;
+        write!(self.out, "{text}")
     }
-    Ok(())
+
+    // The finish rows 0 to n, a line each; of a row that belongs to no job, only what is not 0.
+    pub fn rows(&mut self, rows: &[[u16; 64]; 65], n: usize) -> io::Result<()> {
+        for (x, row) in rows.iter().enumerate() {
+            if x <= n {
+                self.line(format_args!(" row {x}{}", of_jobs(row, n)))?;
+            } else {
+                write!(self.out, "{}", of_jobs(row, 0))?;
+            }
+        }
+        Ok(())
+    }
 }

@@ -7,9 +7,12 @@ use std::array;
 // The numbers of a line, at most 72.
 pub type Numbers = ArrayVec<u64, 72>;
 
+// The largest number of 18 digits.
+const EIGHTEEN_NINES: u64 = 999_999_999_999_999_999;
+
 // One digit more. A number of more than 19 digits is read as the largest, which `saturating_mul` would do of some with 20 only.
 fn with_digit(n: u64, digit: u8) -> u64 {
-    if n > 999999999999999999 {
+    if n > EIGHTEEN_NINES {
         return u64::MAX;
     }
     n * 10 + u64::from(digit)
@@ -33,14 +36,14 @@ pub fn numbers_in(line: &[u8]) -> Numbers {
     numbers
 }
 
-// A number of the line by its place, from 0; 0 where it has fewer.
+// A number of the line by its place, from 0. It is 0 where the line has fewer: a rule of the file of cases, whose lines may leave their last numbers out.
 pub fn nth(numbers: &[u64], i: usize) -> u64
     ensures { result ≡ get_or numbers.now i 0 }
 {
     numbers.get(i).copied().unwrap_or(0)
 }
 
-// The first 64 numbers of a line, as 16 bits hold them; 0 where it has fewer.
+// The first 64 numbers of a line, as 16 bits hold them; 0 where it has fewer, by the same rule.
 pub fn shorts(numbers: &[u64]) -> [u16; 64] {
     array::from_fn(|i| short(nth(numbers, i)))
 }

@@ -30,11 +30,16 @@ fn order_of(numbers: &Numbers) -> Order {
     }
 }
 
+// A number as a count, the largest where it is beyond.
+fn count_of(n: u64) -> usize {
+    usize::try_from(n).unwrap_or(usize::MAX)
+}
+
 // Gives the set the three counts of a line.
 fn set_counts(set: &mut Set, numbers: &Numbers) {
-    set.count = nth(numbers, 0) as usize;
-    set.lo.count = nth(numbers, 1) as usize;
-    set.hi.count = nth(numbers, 2) as usize;
+    set.count = count_of(nth(numbers, 0));
+    set.lo.count = count_of(nth(numbers, 1));
+    set.hi.count = count_of(nth(numbers, 2));
 }
 
 // Changes the set as a line says. A line that builds nothing leaves it as it is.

@@ -6,7 +6,7 @@ use arrayvec::ArrayVec;
 // The bytes of a text, at most 5,000.
 pub type Text = ArrayVec<u8, 5000>;
 
-// The value of a hex digit in lower case; 0 for any other byte. By hand, since `to_digit` reads upper case too.
+// The value of a hex digit in lower case. It is 0 for any other byte: a rule of the file of cases. By hand, since `to_digit` reads upper case too.
 fn digit_value(b: u8) -> u8
     ensures { result ≤ 15 }
 {
@@ -17,7 +17,7 @@ fn digit_value(b: u8) -> u8
     }
 }
 
-// The byte that two hex digits are; 0 where the second is missing.
+// The byte that two hex digits are. It is 0 where the second is missing: a rule of the file of cases.
 fn byte_of(digits: &[u8]) -> u8 {
     match digits {
         [high, low] => digit_value(*high) * 16 + digit_value(*low),

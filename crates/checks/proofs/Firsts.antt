@@ -15,7 +15,7 @@ use Rattle.model.specs.declared.Set.{Set}
 use Rattle.model.specs.declared.Level.TheVariants.{Lo, Hi}
 use Rattle.model.specs.Lists.{first, cut}
 use Rattle.model.specs.Sets.{is_hi, job_at, critical, view, count_of, members, order_of}
-use Rattle.model.specs.Refusals.{good, is_good, checked, applies, placed, first_of, lowest, fault, check_count, time_wrong, check_time, budget_wrong, check_budget, check_lo_order, is_hi_job, check_hi_order}
+use Rattle.model.specs.Refusals.{good, is_good, checked, applies, placed, first_of, lowest, fault, check_count, time_wrong, check_time, budget_wrong, check_budget, check_lo_order, is_hi_job, check_hi_order, refused}
 use Rattle.rules.specs.Rules.{untimely, unbudgeted, may_stand, marked, nonzero}
 use Rattle.laws.proofs.Bools.{split}
 use Rattle.laws.proofs.Members.{hi_jobs_most}
@@ -24,7 +24,6 @@ use Rattle.rules.proofs.Laws.{and_true}
 use Rattle.rules.proofs.Faults.{fault_cong}
 use Rattle.std.proofs.Common.{Option, Ok, Err}
 use Rattle.std.specs.Bool.{then_some}
-use Rattle.checks.specs.Places.{refused}
 use Rattle.checks.proofs.Checked.{passes, refused as refused_by}
 
 pub alone : (n k : ℕ) (b : Bool) → 1 ≤ n → applies n k b ≡ first_of (applies n k b ∷ [])

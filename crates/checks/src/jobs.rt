@@ -16,7 +16,7 @@ pub fn hi_jobs(s: &Set) -> usize
     members(s).iter().filter(|j| is_hi(j.level)).count()
 }
 
-// The number of the lowest job that breaks a rule.
+// The number of the lowest job that breaks a rule. (`as`: there is no `u64::from(usize)`.)
 pub fn lowest<F: Fn(Job) -> bool>(s: &Set, breaks: F) -> Option<u64>
     requires { F.IsAlwaysCallable breaks }
     ensures { (rule : Job → Bool) → ((j : Job) (b : Bool) → F.post breaks j b → b ≡ rule j)

@@ -2,43 +2,31 @@
 ghost use Rattle.std.specs.Prelude.{◌≤◌, [], ◌∷◌, ◌≡◌};
 ghost use Rattle.model.specs.Sets.{view};
 ghost use Rattle.model.specs.Refusals.{checked, first_of, check_count, check_time, check_budget, check_span, check_lo_order, check_hi_order};
-ghost use Rattle.checks.specs.Places.{refused};
 
 use crate::jobs::{hi_jobs, lowest};
 use crate::orders::allowed;
-use model::{BUDGET, COUNT, HI_ORDER, LO_ORDER, Level, Refusal, SPAN, Set, TIME};
+use model::{Check, Level, Refusal, Set};
 use rules::jobs::{unbudgeted, untimely};
 use rules::orders::fault_of;
 use spans::span_of;
 
-// Refuses by `number` with a place, where there is one.
-#[tactic(auto, unfolding(crate::specs::Places::refused))]
-fn refuse(number: u8, place: Option<u64>) -> Result<(), Refusal>
-    ensures { result ≡ refused number place }
-{
-    match place {
-        Some(place) => Err(Refusal { number, place }),
-        None => Ok(()),
-    }
-}
-
-// Check 2: the counts.
+// Check 2: the counts. (`as`: there is no `u64::from(usize)`.)
 pub fn check_count(s: &Set) -> Result<(), Refusal>
     ensures { result ≡ checked (check_count (view s.now)) }
 {
     let n = s.count;
     let wrong = n == 0 || 64 < n || s.lo.count != n || s.hi.count != hi_jobs(s);
-    refuse(COUNT, wrong.then_some(n as u64))
+    Check::Count.refuse(wrong.then_some(n as u64))
 }
 
 // Checks 3 to 5: the times, the budgets, the span.
 pub fn check_jobs(s: &Set) -> Result<(), Refusal>
     ensures { result ≡ checked (first_of (check_time (view s.now) ∷ check_budget (view s.now) ∷ check_span (view s.now) ∷ [])) }
 {
-    refuse(TIME, lowest(s, untimely))?;
-    refuse(BUDGET, lowest(s, unbudgeted))?;
+    Check::Time.refuse(lowest(s, untimely))?;
+    Check::Budget.refuse(lowest(s, unbudgeted))?;
     let n = span_of(*s);
-    refuse(SPAN, (4096 < n).then_some(n))
+    Check::Span.refuse((4096 < n).then_some(n))
 }
 
 // Checks 6 and 7: the orders.
@@ -46,6 +34,6 @@ pub fn check_orders(s: &Set) -> Result<(), Refusal>
     requires { (s.now.count ≤ 64) × (s.now.lo.count ≤ 64) × (s.now.hi.count ≤ 64) }
     ensures { result ≡ checked (first_of (check_lo_order (view s.now) ∷ check_hi_order (view s.now) ∷ [])) }
 {
-    refuse(LO_ORDER, fault_of(&allowed(s, Level::Lo), &s.lo))?;
-    refuse(HI_ORDER, fault_of(&allowed(s, Level::Hi), &s.hi))
+    Check::LoOrder.refuse(fault_of(&allowed(s, Level::Lo), &s.lo))?;
+    Check::HiOrder.refuse(fault_of(&allowed(s, Level::Hi), &s.hi))
 }

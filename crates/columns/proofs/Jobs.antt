@@ -1,6 +1,6 @@
 -- A set's jobs, and how a loop fills its columns, job by job.
---   cut_at, cut-take      == what a list cut at n holds; it is the first n of a list that has them
---   job_at_lem, job_out   == job i + 1 stands at place i; beyond the count there is the blank job
+--   cut-take              == a list cut at n is its first n, where it has them
+--   job_out               == beyond the count there is the blank job
 --   columns_to s i        == a set's columns, filled up to job i
 --   columns_zero, columns_more, columns_all   == before the first job, after one more, and after the last, when they are the set's
 -- Assumes nothing.
@@ -9,6 +9,7 @@ use mathlib.Core.Path.{◌≡◌, refl, sym, ◌∙◌, ap}
 use mathlib.Core.Bool.{Bool, false, cond, ◌&&◌}
 use mathlib.Core.List.{List, [], ◌∷◌, map}
 use native.Mathlib.Omega.{arith}
+use native.Mathlib.Numerals.{add-one}
 use lib.Dec.{eqb, leb}
 use lib.ListN.{length, get_or, take, set, replicate}
 use borrow.Author.Tests.{le-leb, lt-leb}
@@ -19,37 +20,21 @@ use Rattle.model.specs.declared.Level.{Level}
 use Rattle.model.specs.declared.Level.TheVariants.{Lo, Hi}
 use Rattle.model.specs.contracts.Level.{the_type}
 use denote.Enum.Bare.{sameb}
-use lib.ListN.{length-take}
-use lib.Seq.{get_or-take}
 use Rattle.model.specs.Lists.{at, numbers, cut}
 use Rattle.model.specs.Sets.{is_hi, blank, job, job_at, view, critical}
 use Rattle.model.specs.Scenarios.{places}
 use Rattle.laws.proofs.Bools.{tests, split, clash, and_i, and_no_r}
 use Rattle.laws.proofs.Pigeonhole.{length_cut}
-use Rattle.laws.proofs.Places.{at_in, at_out, get_d_any}
+use Rattle.laws.proofs.Places.{at_out, get_d_any}
 use Rattle.laws.proofs.Fill.{map_same, up_to, up_to_zero, up_to-more, up_to-end, up_to-places}
+use Rattle.rules.proofs.Members.{job_of_jobs}
 use Rattle.columns.specs.Columns.{columns_of}
-
-cut_at {ℓ} : {A : Type ℓ} (d : A) (n : ℕ) (l : List A) (i : ℕ) → i < n → get_or (cut d n l) i d ≡ get_or l i d
-unfolding cut
-cut_at d zero l i h = absurd (omega arith)
-cut_at d (suc n) [] zero h = refl
-cut_at d (suc n) [] (suc i) h = cut_at d n [] i (omega arith)
-cut_at d (suc n) (x ∷ l) zero h = refl
-cut_at d (suc n) (x ∷ l) (suc i) h = cut_at d n l i (omega arith)
 
 pub cut-take {ℓ} : {A : Type ℓ} (d : A) (n : ℕ) (l : List A) → n ≤ length l → cut d n l ≡ take n l
 unfolding cut
 cut-take d zero l h = refl
 cut-take d (suc n) [] h = absurd (omega arith)
 cut-take d (suc n) (x ∷ l) h = ap (λ m. x ∷ m) (cut-take d n l (omega arith))
-
-job_at_lem : (s : Set) (i : ℕ) (d : Job) → i < s.count → i < length s.jobs → job_at s (suc i) ≡ get_or s.jobs i d
-unfolding job_at
-job_at_lem s i d h q =
-    let l = cut blank s.count s.jobs in
-    at_in l (suc i) blank (omega arith) ∙ ap (λ k. get_or l k blank) (omega arith) ∙ cut_at blank s.count s.jobs i h
-    ∙ get_d_any s.jobs i blank d q
 
 pub job_out : (s : Set) (j : ℕ) → (leb 1 j && leb j s.count) ≡ false → job_at s j ≡ blank
 unfolding job_at at
@@ -120,16 +105,17 @@ module _ (s : Set) where
       )
       refl
 
-  pub columns_more : (k : Columns) (i n : ℕ) (d : Job) (b : Bool) → k ≡ columns_to s i → length s.jobs ≡ 64 → n ≡ min s.count 64
-      → i < length (take n s.jobs) → b ≡ sameb the_type (get_or (take n s.jobs) i d).level Hi
-      → with_job k i (get_or (take n s.jobs) i d) b ≡ columns_to s (i + 1)
+  -- l is what `members` lends of the set
+  pub columns_more : (k : Columns) (l : List Job) (i : ℕ) (d : Job) (b : Bool) → k ≡ columns_to s i
+      → l ≡ take (min s.count 64) s.jobs → length l ≡ min s.count 64
+      → i < length l → b ≡ sameb the_type (get_or l i d).level Hi
+      → with_job k i (get_or l i d) b ≡ columns_to s (i + 1)
   unfolding columns_to
-  columns_more k i n d b e l m h f =
-      let below : i < n = omega (arith, simp length-take at h) in
+  columns_more k l i d b e jobs count h f =
       let room : i < 64 = omega arith in
-      let w : get_or (take n s.jobs) i d ≡ job_at s (suc i) = get_or-take n s.jobs i d below ∙ sym (job_at_lem s i d (omega arith) (omega arith)) in
+      let w : get_or l i d ≡ job_at s (suc i) = get_d_any l i d blank h ∙ sym (ap (job_at s) (sym (add-one i)) ∙ job_of_jobs s l jobs count i h) in
       let j = job_at s (suc i) in
-      ap (λ x. with_job x i (get_or (take n s.jobs) i d) b) e
+      ap (λ x. with_job x i (get_or l i d) b) e
       ∙ rw (
         f,
         w,
@@ -169,6 +155,5 @@ module _ (s : Set) where
       all : (f : ℕ → ℕ) → up_to i f 0 ≡ map (λ j. cond (leb 1 j && leb j s.count) (f j) 0) (numbers 64)
       all f = up_to-end i s.count f 0 e ∙ up_to-places s.count f 0
 
-  pub columns_all : (i n : ℕ) → length s.jobs ≡ 64 → n ≡ min s.count 64 → i ≤ length (take n s.jobs) → length (take n s.jobs) ≤ i
-      → columns_to s i ≡ columns_of s
-  columns_all i n l m p q = all_filled i (let h : i ≡ min n (length s.jobs) = omega (arith, simp length-take at p, simp length-take at q) in omega arith)
+  pub columns_all : (l : List Job) (i : ℕ) → length l ≡ min s.count 64 → i ≤ length l → length l ≤ i → columns_to s i ≡ columns_of s
+  columns_all l i count p q = all_filled i (omega arith)

@@ -4,7 +4,7 @@
 --   columns_of s   == the columns of the set s
 --   Full k         == columns of 64 places, and counts within them
 --   Testable k     == full columns of a sound set, with 0 beyond the LO budgets
---   Prepared s k   == k are the columns of a set s that passes the checks, as private functions above ask for them
+--   Prepared s k   == k are the columns of a set s that passes the checks, as the proofs of the runs and the tables ask for them
 use Rattle.std.specs.Prelude.{ℕ, ◌≤◌, ◌≡◌, Bool, true, false, cond, ◌&&◌, List, map, leb, length, take}
 use Rattle.model.specs.declared.Level.{Level}
 use Rattle.model.specs.declared.Level.TheVariants.{Lo, Hi}

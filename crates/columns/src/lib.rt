@@ -5,6 +5,7 @@ ghost use Rattle.std.specs.Prelude.{◌≡◌};
 ghost use Rattle.columns.specs.Columns.{view_of, columns_of};
 
 use model::{Level, Set};
+use rules::jobs::members;
 
 // Arrays side by side, and no array of jobs: `picks::pick` promises its answer by the list of the arrivals, which `arrivals` is.
 #[derive(Clone, Copy)]
@@ -48,7 +49,8 @@ pub fn columns_of(s: Set) -> Columns
         lo_order: s.lo.entries,
         hi_order: s.hi.entries,
     };
-    for (i, job) in s.jobs[..s.count.min(64)].iter().enumerate() {
+    // by index: one pass fills five columns; a `zip` of five `iter_mut` is no plainer, and past it a proof has no name for a column
+    for (i, job) in members(&s).iter().enumerate() {
         k.arrivals[i] = job.arrival;
         k.deadlines[i] = job.deadline;
         k.critical[i] = job.level == Level::Hi;

@@ -28,7 +28,8 @@ fn write_printed<W: Write>(out: &mut W, line: &[u8]) -> io::Result<()> {
     out.write_all(page.shown())
 }
 
-// Writes the library's answer to a question on the text of a line, or on a set. `print` asks for what the program prints for the text.
+// Writes the library's answer to a question on the text of a line, or on a set. `print` asks for what the program prints for the text. (It is no case of
+// `Question`: `questions` answers on a set alone, and `analysis_tests` takes each line that begins with `p` to ask for a part.)
 fn write_words<W: Write>(out: &mut W, line: &[u8], question: &[u8], set: &Set) -> io::Result<()> {
     if question.starts_with(b"pr") {
         return write_printed(out, line);
@@ -55,15 +56,14 @@ impl Asked<'_> {
     ) -> io::Result<Kind> {
         self.write_answer(answer, set)?;
         let (wanted, rest) = split_wanted(self.behind);
-        let mut kind = Kind::Difference;
-        if answer.as_slice() == wanted {
-            kind = kind_of(self.question, wanted);
+        match kind_of(self.question, wanted) {
+            Some(kind) if answer.as_slice() == wanted => Ok(kind),
+            _ => {
+                out.write_all(self.case.strip_suffix(rest).unwrap_or(self.case))?;
+                out.write_all(b"The library answers:\n")?;
+                out.write_all(answer)?;
+                Ok(Kind::Difference)
+            }
         }
-        if kind == Kind::Difference {
-            out.write_all(self.case.strip_suffix(rest).unwrap_or(self.case))?;
-            out.write_all(b"The library answers:\n")?;
-            out.write_all(answer)?;
-        }
-        Ok(kind)
     }
 }

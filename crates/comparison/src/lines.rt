@@ -12,7 +12,7 @@ pub fn split_line(text: &[u8]) -> Option<(&[u8], &[u8])>
     }
 }
 
-// The lines at the front of a text that begin with `=`, and what stands behind them.
+// The lines at the front of a text that begin with `=`, and what stands behind them. (No `split` with `take_while`: it gives lines, and not where the last of them ends.)
 pub fn split_wanted(text: &[u8]) -> (&[u8], &[u8]) {
     let mut rest = text;
     while let Some((line, behind)) = split_line(rest) {

@@ -1,10 +1,12 @@
 // How many answers there are of each kind: by the verdict, else by the number of the refusal, else by the question.
 use case_text::{nth, numbers_in};
 use questions::Question;
+use std::alloc::{AllocError, Global};
+use std::collections::BTreeMap;
 use std::fmt;
 
-// What an answer is counted as.
-#[derive(Clone, Copy, PartialEq, Eq)]
+// What an answer is counted as: the kind on which it agrees, or a difference.
+#[derive(Clone, Copy, PartialEq, Eq, PartialOrd, Ord)]
 pub enum Kind {
     Fit,
     UnfitInLo,
@@ -43,81 +45,81 @@ impl fmt::Display for Kind {
     }
 }
 
+// The last number of a refusal; the first is 1.
+const LAST_REFUSAL: u64 = 10;
+
+// The kinds that are no refusals.
+const KINDS: [Kind; 13] = [
+    Kind::Fit,
+    Kind::UnfitInLo,
+    Kind::UnfitInHi,
+    Kind::Rows,
+    Kind::Runs,
+    Kind::Tables,
+    Kind::Parts,
+    Kind::WorstFinishes,
+    Kind::Margins,
+    Kind::Spans,
+    Kind::Picks,
+    Kind::Checks,
+    Kind::Difference,
+];
+
 // The kind of an answer that is no verdict and no refusal. No other question should be agreed on.
-fn kind_of_question(question: &[u8]) -> Kind {
-    match Question::parse(question) {
-        Some(Question::Finishes) => Kind::Rows,
-        Some(Question::Run { .. }) => Kind::Runs,
-        Some(Question::Tables { .. }) => Kind::Tables,
-        Some(Question::Part { .. }) => Kind::Parts,
-        Some(Question::WorstFinishes) => Kind::WorstFinishes,
-        Some(Question::Margins) => Kind::Margins,
-        Some(Question::Span) => Kind::Spans,
-        Some(Question::Pick { .. }) => Kind::Picks,
-        Some(Question::Checks) => Kind::Checks,
-        Some(Question::Judge) | None => Kind::Difference,
+fn kind_of_question(question: &[u8]) -> Option<Kind> {
+    match Question::parse(question)? {
+        Question::Finishes => Some(Kind::Rows),
+        Question::Run { .. } => Some(Kind::Runs),
+        Question::Tables { .. } => Some(Kind::Tables),
+        Question::Part { .. } => Some(Kind::Parts),
+        Question::WorstFinishes => Some(Kind::WorstFinishes),
+        Question::Margins => Some(Kind::Margins),
+        Question::Span => Some(Kind::Spans),
+        Question::Pick { .. } => Some(Kind::Picks),
+        Question::Checks => Some(Kind::Checks),
+        Question::Judge => None,
     }
 }
 
-// The kind of an answer to a question: in each line of an answer the words stand behind two bytes.
-pub fn kind_of(question: &[u8], answer: &[u8]) -> Kind {
+// The kind of an answer that is agreed on, if such an answer to the question has one: in each line of an answer the words stand behind two bytes.
+pub fn kind_of(question: &[u8], answer: &[u8]) -> Option<Kind> {
     let line = answer.split(|b| *b == b'\n').next().unwrap_or(&[]);
     let number = nth(&numbers_in(line), 0);
     match answer.get(2) {
-        Some(b'F') => Kind::Fit,
-        Some(b'U') if number == 0 => Kind::UnfitInLo,
-        Some(b'U') => Kind::UnfitInHi,
-        Some(b'R' | b'r') if matches!(number, 1..=10) => Kind::Refused(number),
-        Some(b'R' | b'r') => Kind::Difference,
+        Some(b'F') => Some(Kind::Fit),
+        Some(b'U') if number == 0 => Some(Kind::UnfitInLo),
+        Some(b'U') => Some(Kind::UnfitInHi),
+        Some(b'R' | b'r') => (1..=LAST_REFUSAL)
+            .contains(&number)
+            .then_some(Kind::Refused(number)),
         _ => kind_of_question(question),
     }
 }
 
-// How many there are of each kind, in the order in which they are printed.
-#[derive(Clone, Copy)]
+// How many there are of each kind, in the order in which they are printed, which is that of the variants of `Kind`.
+#[derive(Drop)]
 pub struct Tally {
-    counts: [(Kind, u64); 23],
+    counts: BTreeMap<Kind, u64>,
 }
 
 impl Tally {
-    // Nothing counted.
-    pub fn new() -> Tally {
-        Tally {
-            counts: [
-                (Kind::Fit, 0),
-                (Kind::UnfitInLo, 0),
-                (Kind::UnfitInHi, 0),
-                (Kind::Refused(1), 0),
-                (Kind::Refused(2), 0),
-                (Kind::Refused(3), 0),
-                (Kind::Refused(4), 0),
-                (Kind::Refused(5), 0),
-                (Kind::Refused(6), 0),
-                (Kind::Refused(7), 0),
-                (Kind::Refused(8), 0),
-                (Kind::Refused(9), 0),
-                (Kind::Refused(10), 0),
-                (Kind::Rows, 0),
-                (Kind::Runs, 0),
-                (Kind::Tables, 0),
-                (Kind::Parts, 0),
-                (Kind::WorstFinishes, 0),
-                (Kind::Margins, 0),
-                (Kind::Spans, 0),
-                (Kind::Picks, 0),
-                (Kind::Checks, 0),
-                (Kind::Difference, 0),
-            ],
+    // Nothing counted. Each kind is there, since it is printed with 0 too.
+    pub fn new(alloc: Global) -> Result<Tally, AllocError> {
+        let mut counts = BTreeMap::new(alloc);
+        for kind in KINDS {
+            counts.insert(kind, 0)?;
         }
+        for number in 1..=LAST_REFUSAL {
+            counts.insert(Kind::Refused(number), 0)?;
+        }
+        Ok(Tally { counts })
     }
 
     // One more of a kind.
-    pub fn add(&mut self, kind: Kind) {
-        for (counted, count) in &mut self.counts {
-            if *counted == kind {
-                *count = count.wrapping_add(1);
-            }
-        }
+    pub fn add(&mut self, kind: Kind) -> Result<(), AllocError> {
+        let count = self.counts.entry(kind)?.or_insert(0);
+        *count = count.wrapping_add(1);
+        Ok(())
     }
 }
 

@@ -8,14 +8,14 @@ ghost use Rattle.forms.specs.Forms.{lf, begins, grows, more, number, byte as giv
 ghost use Rattle.fields.specs.Cursors.{Found, Steps};
 
 // A number that has been read, and where the text goes on behind it.
-#[derive(Clone, Copy, PartialEq, Eq)]
+#[derive(Clone, Copy)]
 pub struct Got {
     pub value: u16,
     pub at: usize,
 }
 
 // The place where a text is of the form no more.
-#[derive(Clone, Copy, PartialEq, Eq)]
+#[derive(Clone, Copy)]
 pub struct Stuck {
     pub at: usize,
 }

@@ -5,6 +5,10 @@
 --   FN-one  == the promise of the function FN admits one answer
 -- Assumes nothing.
 use Rattle.std.specs.Prelude.{Option, Result}
+use Rattle.std.specs.declared.clone.Clone.{Ghosts as Clones}
+use denote.RattleType.{RattleType}
+use denote.Param.Laws.{Laws, IsCopy}
+use mir.Syntax.{Dict}
 use Prim.Native.Nat.{ℕ}
 use mathlib.Core.Path.{◌≡◌, sym, ◌∙◌}
 use mathlib.Core.Bool.{Bool}
@@ -14,16 +18,24 @@ use Rattle.model.specs.declared.Level.{Level}
 use Rattle.model.specs.declared.Job.{Job}
 use Rattle.model.specs.declared.Order.{Order}
 use Rattle.model.specs.declared.Set.{Set}
+use Rattle.model.specs.declared.Check.{Check}
 use Rattle.model.specs.declared.Refusal.{Refusal}
 use Rattle.model.specs.declared.Ran.{Ran}
 use Rattle.model.specs.declared.Judged.{Judged}
 use Rattle.model.specs.declared.Assessed.{Assessed}
 use Rattle.columns.specs.declared.Columns.{Columns}
-use Rattle.ground.specs.Promises.{IsHi, Untimely, Unbudgeted, Places, Members, FaultOf, Told, Checked, Checks, RefusalOf, SpanOf, ColumnsOf, Orders, ChecksRoom, Assesses, Judges, FinishRows, RowsRefusal, WorstFinishes, Margins, Executes, Slots}
+use Rattle.ground.specs.Promises.{IsHi, Untimely, Unbudgeted, Places, Members, FaultOf, Held, Refuses, Told, Checked, Checks, RefusalOf, SpanOf, ColumnsOf, Orders, ChecksRoom, Assesses, Judges, FinishRows, RowsRefusal, WorstFinishes, Margins, Executes, Slots}
 use Rattle.ground.specs.Promises.{Picks, Parts, PartRefusal, MakesTables, InRange, Outruns, IsEnabled, Misses, Worse, MarginOf}
 
 pub one : {A : Type 0} {x y z : A} → x ≡ z → y ≡ z → x ≡ y
 one p q = p ∙ sym q
+
+-- model -------------------------------------------------------------------------------------------------------------------------------
+
+-- What a list of any type T holds for a job.
+pub held_one : (T : RattleType) (laws : Laws T) (copy : IsCopy T) (clones : Clones T.Denot) (dict : Dict)
+    (l : List T.Denot) (j : ℕ) (x y : Option T.Denot) → Held T laws copy clones dict l j x → Held T laws copy clones dict l j y → x ≡ y
+held_one T laws copy clones dict l j x y p q = one p.2 q.2
 
 -- rules -------------------------------------------------------------------------------------------------------------------------------
 
@@ -51,6 +63,9 @@ fault_of_one ok o x y p q = one p.3 q.3
 -- checks and columns ------------------------------------------------------------------------------------------------------------------
 
 -- The result of the checks: nothing, or the refusal.
+pub refuses_one : (c : Check) (k : Option ℕ) (x y : Result (Unit {0}) Refusal) → Refuses c k x → Refuses c k y → x ≡ y
+refuses_one c k x y p q = one p q
+
 pub told_one : (r : Result (Unit {0}) Refusal) (x y : Refusal) → Told r x → Told r y → x ≡ y
 told_one r x y p q = one p q
 

@@ -5,6 +5,8 @@
 --   Checks s x, Members s l, FaultOf ok o x   == `check` and `members` of a set that is lent, and `fault_of` of marks and an order that are
 --   Orders k m x      == `order` of the columns k in the mode m: the slice that it answers holds x
 --   ChecksRoom s lo hi x   == `check_room` of the set s, for tables of lengths lo and hi
+--   Refuses c k x     == `refuse` of the check c may answer x for the place k, if there is one
+--   Held T .. l j x   == `held`, lent a list l of any type T that is copied, for the job j
 --   Told r x, Checked r x   == `from` may tell what a check refuses, r, as the answer x; and `check` the answer r as the check x
 --   Executes s c x    == `execute`, with the running times c
 --   Picks o a d t x   == `pick`, lent an order o, arrivals a and who is done d, at the instant t
@@ -14,11 +16,16 @@
 --   MakesTables s lo hi x lo_after hi_after   == `make_tables`, lent room that holds lo and hi: it answers x, and the room holds lo_after and hi_after
 use Rattle.std.specs.Prelude.{ℕ, Bool, List, ℤ, Option, Result}
 use Rattle.std.specs.Borrow.{GName, Bor, MutBor}
+use Rattle.std.specs.declared.clone.Clone.{Ghosts as Clones}
 use contract.Lifetimes.{Lfts}
+use denote.RattleType.{RattleType}
+use denote.Param.Laws.{Laws, IsCopy}
+use mir.Syntax.{Dict}
 use Rattle.model.specs.declared.Level.{Level}
 use Rattle.model.specs.declared.Job.{Job}
 use Rattle.model.specs.declared.Order.{Order}
 use Rattle.model.specs.declared.Set.{Set}
+use Rattle.model.specs.declared.Check.{Check}
 use Rattle.model.specs.declared.Refusal.{Refusal}
 use Rattle.model.specs.declared.Ran.{Ran}
 use Rattle.model.specs.declared.Judged.{Judged}
@@ -26,6 +33,8 @@ use Rattle.model.specs.declared.Assessed.{Assessed}
 use Rattle.columns.specs.declared.Columns.{Columns}
 use Rattle.model.proofs.RefusalFromResultUnitRefusal.from.Reads.{Post as told}
 use Rattle.model.proofs.Refusal.check.Reads.{Post as checked}
+use Rattle.model.proofs.Check.refuse.Reads.{Post as refuses}
+use Rattle.model.proofs.places.held.Reads.{Post as held}
 use Rattle.rules.proofs.jobs.is_hi.Reads.{Post as is_hi}
 use Rattle.rules.proofs.jobs.untimely.Reads.{Post as untimely}
 use Rattle.rules.proofs.jobs.unbudgeted.Reads.{Post as unbudgeted}
@@ -68,6 +77,9 @@ Unbudgeted j x = unbudgeted tt (j, tt) x (j, tt)
 
 abbrev pub Places : ℕ → ℕ → Type 0
 Places n x = places tt (n, tt) x (n, tt)
+
+abbrev pub Refuses : Check → Option ℕ → Result (Unit {0}) Refusal → Type 0
+Refuses c k x = refuses tt (c, (k, tt)) x (c, (k, tt))
 
 abbrev pub Told : Result (Unit {0}) Refusal → Refusal → Type 0
 Told r x = told tt (r, tt) x (r, tt)
@@ -138,6 +150,10 @@ abbrev pub room : {A : Type 0} → Spot → List A → MutBor (List A)
 room p l = record { ref_ptr = p.0; ghost_name = p.1; now = l }
 
 -- Wherever what is lent stands, and however long it is lent.
+abbrev pub Held : (T : RattleType) → Laws T → IsCopy T → Clones T.Denot → Dict → List T.Denot → ℕ → Option T.Denot → Type 0
+Held T laws copy clones dict l j x =
+    (κs : Lfts 2) × (p : Spot) × held T laws copy clones dict κs (slice p l, (j, tt)) x (slice p l, (j, tt))
+
 abbrev pub Checks : Set → Result (Unit {0}) Refusal → Type 0
 Checks s x = (κs : Lfts 1) × (p : Spot) × check κs (lent p s, tt) x (lent p s, tt)
 

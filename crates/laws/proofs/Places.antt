@@ -1,4 +1,5 @@
 -- The places of a list with one for each job, and what one slot does to a state.
+--   at_held          == what a list holds for a job, or d
 --   Placed p         == a number that takes part is a place, 1 to 64
 --   at_in, at_suc, at_place, at_out, at_set, place   == what stands at a place;  ext_at: lists that hold the same at each are equal
 --   pick-room        == so is who is picked
@@ -14,10 +15,12 @@ use lib.Dec.{eqb, leb}
 use lib.ListN.{get_or, length, set, length-set, get_or-eq_default}
 use lib.Seq.{get_or-set_same, get_or-set_other, ext_get_or}
 use borrow.Author.Tests.{ne_eqb, eqb-true, eqb-false, not-true}
+use Rattle.std.specs.Option.{unwrap_or}
+use Rattle.std.proofs.lemmas.Option.{unwrap_or-slice_get}
 use Rattle.model.specs.declared.Level.{Level}
 use Rattle.model.specs.declared.Level.TheVariants.{Lo, Hi}
 use Rattle.model.specs.declared.State.{State}
-use Rattle.model.specs.Lists.{at, from, numbers, mem}
+use Rattle.model.specs.Lists.{held, at, from, numbers, mem}
 use Rattle.model.specs.Sets.{Policy, is_hi, members}
 use Rattle.model.specs.Runs.{time, ready, pick, bump, account}
 use Rattle.laws.proofs.Bools.{tests, split, clash, and_r}
@@ -25,6 +28,10 @@ use Rattle.laws.proofs.Lists.{distinct, only_i, only_e, first_some}
 use Rattle.laws.proofs.Sums.{from-mem, mem-from, from-distinct, only-distinct}
 
 -- places ------------------------------------------------------------------------------------------------------------------------------
+
+pub at_held : {A : Type 0} (l : List A) (j : ℕ) (d : A) → unwrap_or (held l j) d ≡ at l j d
+unfolding held at
+at_held l j d = split (eqb j 0) (λ e. rw e refl) (λ e. rw e (unwrap_or-slice_get l (j - 1) d))
 
 abbrev pub Placed : Policy → Type 0
 Placed p = (j : ℕ) → p.part j ≡ true → (1 ≤ j) × (j ≤ 64)

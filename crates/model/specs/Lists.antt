@@ -1,5 +1,6 @@
 -- The few words on lists and numbers that the other files use.
---   at l j d      == what a list with a place for each job holds for job j; d where j names no place
+--   held l j      == what a list with a place for each job holds for job j; nothing where j names no place
+--   at l j d      == what it holds for job j, or d
 --   from k n      == the n numbers k, k + 1, ..
 --   numbers n     == 1 to n
 --   only test l   == the entries of l that pass, in their order
@@ -10,7 +11,10 @@
 --   total f l     == the sum of f over l
 --   largest f l   == the largest f of an entry of l; 0 where l is empty
 --   cut d n l     == the first n entries of l, with d for each that l lacks
-use Rattle.std.specs.Prelude.{ℕ, zero, suc, ◌+◌, ◌-◌, max, Bool, false, cond, ◌||◌, List, [], ◌∷◌, eqb, ltb, get_or}
+use Rattle.std.specs.Prelude.{ℕ, zero, suc, ◌+◌, ◌-◌, max, Bool, false, cond, ◌||◌, List, [], ◌∷◌, eqb, ltb, get_or, slice_get, Option, None}
+
+unfoldable pub held : {A : Type 0} → List A → ℕ → Option A
+held l j = cond (eqb j 0) None (slice_get l (j - 1))
 
 unfoldable pub at {ℓ} : {A : Type ℓ} → List A → ℕ → A → A
 at l j d = cond (eqb j 0) d (get_or l (j - 1) d)

@@ -1,5 +1,6 @@
 -- Document 01, "Refusal numbers". "The first that applies, in this order, is given. Each answer is the number and one place value."
 --   good              == no refusal
+--   number_of c       == the number of check c;  refused n k: refused by check n with the place k, where there is one
 --   told r, checked r == what a check refuses, as a refusal, which is good where it refuses nothing; and back
 --   applies n k b     == refusal n with place k, where b says that it applies
 --   placed n k        == refusal n with place k, a number from 1; k = 0 says that it does not apply
@@ -7,8 +8,10 @@
 --   lowest n v bad    == refusal n at the lowest job that is bad
 --   fault ok l        == the first position of l, from 1, whose entry is not ok or repeats; 0 where there is none
 --   checks v          == checks 2 to 7;  refusal v: the first that applies
-use Rattle.std.specs.Prelude.{ℕ, suc, Bool, cond, not, ◌&&◌, ◌||◌, List, [], ◌∷◌, eqb, leb, ltb, length, Result, Ok, Err}
+use Rattle.std.specs.Prelude.{ℕ, suc, Bool, cond, not, ◌&&◌, ◌||◌, List, [], ◌∷◌, eqb, leb, ltb, length, Option, Some, None, Result, Ok, Err}
 use Rattle.model.specs.declared.Level.TheVariants.{Lo, Hi}
+use Rattle.model.specs.declared.Check.{Check}
+use Rattle.model.specs.declared.Check.TheVariants.{Text, Count, Time, Budget, Span, LoOrder, HiOrder, Room, Run, Instant}
 use Rattle.model.specs.declared.Refusal.{Refusal}
 use Rattle.model.specs.Lists.{first, mem}
 use Rattle.model.specs.Sets.{View, members, critical, span}
@@ -21,7 +24,24 @@ good = record { number = 0; place = 0 }
 unfoldable pub is_good : Refusal → Bool
 is_good r = eqb r.number 0
 
+-- "1 TEXT, 2 COUNT, .."
+abbrev pub number_of : Check → ℕ
+number_of Text = 1
+number_of Count = 2
+number_of Time = 3
+number_of Budget = 4
+number_of Span = 5
+number_of LoOrder = 6
+number_of HiOrder = 7
+number_of Room = 8
+number_of Run = 9
+number_of Instant = 10
+
 -- A check refuses or passes.
+unfoldable pub refused : ℕ → Option ℕ → Result (Unit {0}) Refusal
+refused n None = Ok tt
+refused n (Some k) = Err (record { number = n; place = k })
+
 unfoldable pub told : Result (Unit {0}) Refusal → Refusal
 told (Ok u) = good
 told (Err r) = r

@@ -2,8 +2,10 @@
 #![tactic(auto)]
 
 ghost use Rattle.std.specs.Prelude.{◌≡◌};
-ghost use Rattle.model.specs.Refusals.{told, checked};
+ghost use Rattle.model.specs.Refusals.{told, checked, refused, number_of};
 ghost use Rattle.model.specs.Printed.{scenario_number};
+
+pub mod places;
 
 // A job's level of criticality. The mode of a run is one of the same two.
 #[derive(Clone, Copy, PartialEq, Eq)]
@@ -39,6 +41,21 @@ pub struct Set {
     pub hi: Order,
 }
 
+// The checks of document 01, "Refusal numbers", each with its number.
+#[derive(Clone, Copy, PartialEq, Eq)]
+pub enum Check {
+    Text = 1,
+    Count = 2,
+    Time = 3,
+    Budget = 4,
+    Span = 5,
+    LoOrder = 6,
+    HiOrder = 7,
+    Room = 8,
+    Run = 9,
+    Instant = 10,
+}
+
 // "Each answer is the number and one place value." Number 0 with place 0 is good. (Document 01 names the form, and `refusal` and the theorems over it are
 // stated by these numbers; code that may be refused answers a Result, and `told` is what From makes of it.)
 #[derive(Clone, Copy)]
@@ -47,17 +64,35 @@ pub struct Refusal {
     pub place: u64,
 }
 
+impl Check {
+    // Refuses with a place, where there is one. (`as`: the number that stands beside the variant.)
+    #[tactic(auto, unfolding(crate::specs::Refusals::refused, crate::specs::Refusals::number_of))]
+    pub fn refuse(self, place: Option<u64>) -> Result<(), Refusal>
+        ensures { result ≡ refused (number_of self) place }
+    {
+        match place {
+            Some(place) => Err(Refusal {
+                number: self as u8,
+                place,
+            }),
+            None => Ok(()),
+        }
+    }
+}
+
 impl Refusal {
+    // No refusal.
+    pub const GOOD: Refusal = Refusal {
+        number: 0,
+        place: 0,
+    };
+
     // What this answer says of a check: that it refuses, or, where it is good, that it lets pass.
     #[tactic(auto, unfolding(crate::specs::Refusals::checked, crate::specs::Refusals::is_good))]
     pub fn check(self) -> Result<(), Refusal>
         ensures { result ≡ checked self }
     {
-        if self.number == GOOD {
-            Ok(())
-        } else {
-            Err(self)
-        }
+        if self.number == 0 { Ok(()) } else { Err(self) }
     }
 }
 
@@ -67,36 +102,11 @@ impl From<Result<(), Refusal>> for Refusal {
 
     fn from(r: Result<(), Refusal>) -> Refusal {
         match r {
-            Ok(()) => Refusal {
-                number: GOOD,
-                place: 0,
-            },
+            Ok(()) => Refusal::GOOD,
             Err(refusal) => refusal,
         }
     }
 }
-
-pub const GOOD: u8 = 0;
-
-pub const TEXT: u8 = 1;
-
-pub const COUNT: u8 = 2;
-
-pub const TIME: u8 = 3;
-
-pub const BUDGET: u8 = 4;
-
-pub const SPAN: u8 = 5;
-
-pub const LO_ORDER: u8 = 6;
-
-pub const HI_ORDER: u8 = 7;
-
-pub const ROOM: u8 = 8;
-
-pub const RUN: u8 = 9;
-
-pub const INSTANT: u8 = 10;
 
 // What the reader answers for a text: its set, all 0 where it is refused. (The refusal stands beside the set, as beside a run's finishes below, since
 // document 01 says that what is refused comes back all 0; `Reads` and `ran` are stated over that.)
@@ -156,7 +166,7 @@ pub enum Verdict {
     Unfit(Miss),
 }
 
-// A judgement, which is the verdict found or the refusal, and beside it the running times of the failing scenario, all 0 where there is none.
+// A judgement, which is the verdict found or the refusal, and beside it (document 01 names the form, here and below) the running times of the failing scenario, all 0 where there is none.
 #[derive(Clone, Copy)]
 pub struct Judged {
     pub judgement: Result<Verdict, Refusal>,

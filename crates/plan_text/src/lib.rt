@@ -8,9 +8,9 @@ ghost use Rattle.plan_text.specs.Parts.{PlanRead};
 mod reader;
 
 use fields::Stuck;
-use model::{GOOD, Job, Reading, Set};
+use model::{Job, Reading, Refusal, Set};
 use reader::Reader;
-use readings::{answer, level_number, no_job, refused};
+use readings::{level_number, no_job, refused};
 
 // How many of the jobs are HI jobs.
 #[tactic(auto, using(crate::proofs::Jobs::ones_sum))]
@@ -44,7 +44,10 @@ pub fn read(text: &[u8]) -> Reading
     ensures { Reads text.now result }
 {
     match plan(text) {
-        Ok(set) => answer(GOOD, 0, set),
+        Ok(set) => Reading {
+            refusal: Refusal::GOOD,
+            set,
+        },
         Err(stuck) => refused(stuck.at),
     }
 }

@@ -58,7 +58,8 @@ impl Reader<'_> {
         Ok(())
     }
 
-    // A line of as many numbers as there is room for; no line where there is none.
+    // A line of as many numbers as there is room for; no line where there is none. (A common loop for this and `jobs` would take a closure that borrows
+    // the reader: no shorter than the two.)
     fn line(&mut self, values: &mut [u16], level: Option<usize>) -> Result<(), Stuck>
         ensures { Takes self.old (row (limits level (length values.old)) []) self.new (λ _. values.new) result }
     {

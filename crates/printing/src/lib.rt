@@ -12,7 +12,7 @@ ghost use Rattle.pages.specs.Pages.{page};
 mod lines;
 
 use analysis::assess;
-use lines::{Fit, unfit_page};
+use lines::Passed;
 use model::{Reading, Set, Verdict};
 use pages::Page;
 use plan_text::read;
@@ -24,12 +24,8 @@ fn judged_page(s: &Set) -> Page
     let a = assess(*s);
     match a.judged.judgement {
         Err(refusal) => Page::refused(refusal),
-        Ok(Verdict::Fit) => Fit {
-            set: s,
-            worsts: &a.worsts,
-        }
-        .page(),
-        Ok(Verdict::Unfit(miss)) => unfit_page(s, miss, &a.judged.times),
+        Ok(Verdict::Fit) => Passed { set: s }.fit(&a.worsts),
+        Ok(Verdict::Unfit(miss)) => Passed { set: s }.unfit(miss, &a.judged.times),
     }
 }
 

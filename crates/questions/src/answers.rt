@@ -9,14 +9,14 @@ ghost use Rattle.questions.specs.Questions.{asks};
 
 use crate::lent::{write_part, write_tables};
 use crate::question::Question;
-use answer_text::{Gets, Switch, Words, of_jobs, rows};
+use answer_text::{Gets, Lines, Switch, Words, of_jobs};
 use model::Set;
 use std::io;
 use std::io::Write;
 
-// The number of jobs that an answer has places for.
+// The number of jobs that an answer has places for: those of the set, and none where its count is beyond its room.
 fn jobs_in(set: &Set) -> usize {
-    if set.count > 64 { 0 } else { set.count }
+    set.jobs.get(..set.count).unwrap_or(&[]).len()
 }
 
 // The judgement, and the running times beside it.
@@ -27,9 +27,9 @@ fn write_judged<W: Write>(out: &mut W, set: &Set) -> io::Result<()> {
 }
 
 // The finish rows.
-fn write_finishes<W: Write>(out: &mut W, begin: &[u8], set: &Set) -> io::Result<()> {
-    write!(out, " {}", Words(analysis::rows_refusal(*set)))?;
-    rows(out, begin, &analysis::finish_rows(*set), jobs_in(set))
+fn write_finishes<W: Write>(lines: &mut Lines<'_, W>, set: &Set) -> io::Result<()> {
+    write!(lines.out, " {}", Words(analysis::rows_refusal(*set)))?;
+    lines.rows(&analysis::finish_rows(*set), jobs_in(set))
 }
 
 // The run with these times.
@@ -44,7 +44,7 @@ fn write_run<W: Write>(out: &mut W, set: &Set, times: &[u16; 64]) -> io::Result<
     )
 }
 
-// Who gets a slot.
+// Who gets a slot. (The arrivals are mapped here: `columns_of` makes arrays of the other columns too, which the pick does not read.)
 fn write_pick<W: Write>(out: &mut W, set: &Set, slot: u16, done: &[bool]) -> io::Result<()> {
     let arrivals = set.jobs.map(|job| job.arrival);
     let entries = &set.lo.entries;
@@ -67,22 +67,23 @@ pub fn answer<W: Write>(out: &mut W, begin: &[u8], question: &[u8], set: &Set) -
     let Some(question) = Question::parse(question) else {
         return Ok(());
     };
+    let mut lines = Lines { out, begin };
     match &question {
-        Question::Checks => write!(out, " {}", Words(checks::refusal_of(*set))),
-        Question::Span => write!(out, " {}", checks::span_of(*set)),
-        Question::Judge => write_judged(out, set),
-        Question::Finishes => write_finishes(out, begin, set),
+        Question::Checks => write!(lines.out, " {}", Words(checks::refusal_of(*set))),
+        Question::Span => write!(lines.out, " {}", checks::span_of(*set)),
+        Question::Judge => write_judged(lines.out, set),
+        Question::Finishes => write_finishes(&mut lines, set),
         Question::WorstFinishes => {
             let finishes = analysis::worst_finishes(*set);
-            write!(out, "{}", of_jobs(&finishes, jobs_in(set)))
+            write!(lines.out, "{}", of_jobs(&finishes, jobs_in(set)))
         }
         Question::Margins => {
             let margins = analysis::margins(*set);
-            write!(out, "{}", of_jobs(&margins, jobs_in(set)))
+            write!(lines.out, "{}", of_jobs(&margins, jobs_in(set)))
         }
-        Question::Run { times } => write_run(out, set, times),
-        Question::Tables { lo_room, hi_room } => write_tables(out, begin, set, *lo_room, *hi_room),
-        Question::Part { from, room } => write_part(out, set, *from, *room),
-        Question::Pick { slot, done } => write_pick(out, set, *slot, done),
+        Question::Run { times } => write_run(lines.out, set, times),
+        Question::Tables { lo_room, hi_room } => write_tables(&mut lines, set, *lo_room, *hi_room),
+        Question::Part { from, room } => write_part(lines.out, set, *from, *room),
+        Question::Pick { slot, done } => write_pick(lines.out, set, *slot, done),
     }
 }

@@ -1,7 +1,7 @@
 // The tables of a set in lent room, and parts of them.
 ghost use Rattle.std.specs.Prelude.{◌≤◌};
 
-use answer_text::{Table, Words, line};
+use answer_text::{Lines, Table, Words};
 use model::Set;
 use std::io;
 use std::io::Write;
@@ -18,13 +18,12 @@ fn room() -> [u16; ROOM] {
 fn lent(asked: u64) -> usize
     ensures { result ≤ 4200 }
 {
-    asked.min(ROOM as u64) as usize
+    usize::try_from(asked).map_or(ROOM, |n| n.min(ROOM))
 }
 
 // Both tables in room of the lengths that a question gives.
 pub fn write_tables<W: Write>(
-    out: &mut W,
-    begin: &[u8],
+    lines: &mut Lines<'_, W>,
     set: &Set,
     lo_room: u64,
     hi_room: u64,
@@ -33,9 +32,9 @@ pub fn write_tables<W: Write>(
     let mut hi = room();
     let lo = &mut lo[..lent(lo_room)];
     let hi = &mut hi[..lent(hi_room)];
-    write!(out, " {}", Words(analysis::make_tables(*set, lo, hi)))?;
-    line(out, begin, format_args!(" LO table{}", Table(lo)))?;
-    line(out, begin, format_args!(" HI table{}", Table(hi)))
+    write!(lines.out, " {}", Words(analysis::make_tables(*set, lo, hi)))?;
+    lines.line(format_args!(" LO table{}", Table(lo)))?;
+    lines.line(format_args!(" HI table{}", Table(hi)))
 }
 
 // The part of the HI table that a question asks for, and the companion refusal.
@@ -43,9 +42,10 @@ pub fn write_part<W: Write>(out: &mut W, set: &Set, from: u64, hi_room: u64) -> 
     let mut lo = room();
     let mut hi = room();
     let n = lent(hi_room);
+    let from = usize::try_from(from).unwrap_or(usize::MAX);
     let table = &mut hi[..n];
     analysis::make_tables(*set, &mut lo[..n], table);
-    let refusal = Words(analysis::part_refusal(table, from as usize));
-    let part = Table(analysis::part(table, from as usize));
+    let refusal = Words(analysis::part_refusal(table, from));
+    let part = Table(analysis::part(table, from));
     write!(out, " {refusal} gives{part}")
 }

@@ -7,9 +7,9 @@ ghost use Rattle.model.specs.Texts.{level_number, no_set};
 ghost use Rattle.forms.specs.Forms.{job_of};
 ghost use Rattle.readings.specs.Readings.{answer, refused_at};
 
-use model::{Job, Level, Order, Reading, Refusal, Set, TEXT};
+use model::{Check, Job, Level, Order, Reading, Refusal, Set};
 
-// The number of a level.
+// The number of a level. (`as`: the number of the variant.)
 #[tactic(auto, unfolding(model::specs::Texts::level_number))]
 pub fn level_number(l: Level) -> usize
     ensures { result ≡ level_number l }
@@ -77,10 +77,10 @@ pub fn answer(number: u8, place: usize, set: Set) -> Reading
     }
 }
 
-// Refusal 1 with its place.
+// Refusal 1 with its place. (`as`: the number that stands beside the variant.)
 #[tactic(auto, unfolding(crate::specs::Readings::refused_at))]
 pub fn refused(place: usize) -> Reading
     ensures { result ≡ refused_at place }
 {
-    answer(TEXT, place, no_set())
+    answer(Check::Text as u8, place, no_set())
 }

@@ -5,6 +5,7 @@ ghost use Rattle.model.specs.Refusals.{fault};
 ghost use Rattle.rules.specs.Rules.{marked, nonzero};
 
 use model::Order;
+use model::places::held;
 
 // How many of n jobs have a place.
 pub fn places(n: usize) -> usize
@@ -14,14 +15,14 @@ pub fn places(n: usize) -> usize
 }
 
 // The number has a mark, and it is true.
-#[tactic(auto, unfolding(crate::specs::Rules::marked, model::specs::Lists::at))]
+#[tactic(auto, using(laws::proofs::Places::at_held), unfolding(crate::specs::Rules::marked))]
 fn marked(ok: &[bool; 64], x: u16) -> bool
     ensures { result ≡ marked ok.now x }
 {
-    x != 0 && ok.get(usize::from(x) - 1).copied().unwrap_or(false)
+    held(ok, x).unwrap_or(false)
 }
 
-// The first position of the order, from 1, whose entry is not marked or repeats.
+// The first position of the order, from 1, whose entry is not marked or repeats. (`as`: there is no `u64::from(usize)`.)
 pub fn fault_of(ok: &[bool; 64], o: &Order) -> Option<u64>
     ensures { result ≡ nonzero (fault (marked ok.now) (cut 0 (min o.now.count 64) o.now.entries)) }
 {

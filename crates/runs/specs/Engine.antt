@@ -3,7 +3,7 @@
 --   switched, noted, given, accounted   == the switch, the finishes and the progress after a slot
 --   next p c t g    == a run's progress after slot t;  progress_at p n c t: at instant t, from start_of n c
 --   run_of v c      == what a run that is not refused answers: the finishes, and the switch
---   Accountable, Steppable, Runnable   == what the account of a slot, a step and a whole run ask for
+--   Accountable, Steppable   == what the account of a slot and a step ask for;  Runnable: what the proofs ask for of a whole run
 use Rattle.std.specs.Prelude.{ℕ, zero, suc, ◌-◌, ◌≤◌, ◌<◌, ◌≡◌, Bool, true, false, cond, not, ◌&&◌, ◌||◌, List, map, eqb, leb, set, replicate, None as Never, Some as At, Option, Some as Job, None as Idle}
 use Rattle.model.specs.declared.Level.{Level}
 use Rattle.model.specs.declared.Level.TheVariants.{Lo, Hi}

@@ -14,9 +14,9 @@ mod range;
 use checks::{check, span_of};
 use columns::columns_of;
 use engine::{Progress, Run};
-use model::{ROOM, Ran, Refusal, Set};
+use model::{Check, Ran, Refusal, Set};
 
-// The span of a set that passes the checks.
+// The span of a set that passes the checks. (`as`: it is at most 4,096, so there is no error to handle.)
 fn span_in(s: &Set) -> u16
     requires { is_good (refusal (view s.now)) ≡ true }
     ensures { result ≡ span_of (view s.now) }
@@ -50,7 +50,7 @@ fn executed(s: &Set, times: &[u16; 64]) -> Result<Ran, Refusal>
         ..
     } = run.to_span(span_in(s), &mut []);
     Ok(Ran {
-        refusal: Refusal::from(Ok(())),
+        refusal: Refusal::GOOD,
         finishes,
         switch,
     })
@@ -64,19 +64,13 @@ pub fn execute(s: Set, times: [u16; 64]) -> Ran
     executed(&s, &times).unwrap_or_else(not_run)
 }
 
-// Refuses, by 8, tables of lengths `lo` and `hi` where one of them is shorter than the set's span.
-#[tactic(auto, unfolding(model::specs::Refusals::check_room, model::specs::Refusals::applies, model::specs::Refusals::checked, model::specs::Refusals::is_good, model::specs::Refusals::good))]
+// Refuses, by 8, tables of lengths `lo` and `hi` where one of them is shorter than the set's span. (`as`: there is no `u64::from(usize)`.)
+#[tactic(auto, unfolding(model::specs::Refusals::check_room, model::specs::Refusals::refused, model::specs::Refusals::applies, model::specs::Refusals::checked, model::specs::Refusals::is_good, model::specs::Refusals::good))]
 pub fn check_room(s: &Set, lo: usize, hi: usize) -> Result<(), Refusal>
     ensures { result ≡ checked (check_room (view s.now) lo hi) }
 {
-    let place = span_of(*s);
-    if (lo.min(hi) as u64) < place {
-        return Err(Refusal {
-            number: ROOM,
-            place,
-        });
-    }
-    Ok(())
+    let span = span_of(*s);
+    Check::Room.refuse(((lo.min(hi) as u64) < span).then_some(span))
 }
 
 // Writes who gets each slot of one given run into the room lent, or refuses: 8 after 2 to 7, and then 9.

@@ -13,6 +13,7 @@ use columns::columns_of;
 use input::{text_in, times_in};
 use input_bytes::read_full;
 use model::{Refusal, Set};
+use pages::Page;
 use plan_text::read;
 use std::io;
 use std::io::Write;
@@ -48,10 +49,10 @@ fn first_of(values: &[u16], n: usize) -> List<'_, u16> {
 
 // The line of a refusal.
 fn show_refusal<W: Write>(out: &mut W, refusal: Refusal) -> io::Result<()> {
-    writeln!(out, "REFUSED {} {}", refusal.number, refusal.place)
+    out.write_all(Page::refused(refusal).shown())
 }
 
-// The lines of a run that is not refused, with its slots.
+// The lines of a run that is not refused, with its slots. (The span is cast: it is a place in the table, of 4,096 at most.)
 fn show_run<W: Write>(out: &mut W, set: &Set, times: &[u16; 64], table: &[u16]) -> io::Result<()> {
     let ran = execute(*set, *times);
     writeln!(out, "times{}", first_of(times, set.count))?;

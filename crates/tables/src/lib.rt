@@ -14,7 +14,7 @@ use model::{Refusal, Set};
 use runs::{check_room, slots};
 use table::hi_table;
 
-// Makes both tables in the room lent, or refuses: 8 after 2 to 7.
+// Makes both tables in the room lent, or refuses: 8 after 2 to 7. (`as`: the span is at most 4,096 here, so there is no error to handle.)
 fn write_tables(s: &Set, lo: &mut [u16], hi: &mut [u16]) -> Result<(), Refusal>
     ensures answer { result ≡ checked (tables_refusal (view s.now) (length lo.old) (length hi.old)) }
     ensures normal { lo.new ≡ lo_table_in (view s.now) lo.old hi.old }

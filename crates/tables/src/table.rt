@@ -10,6 +10,7 @@ ghost use Rattle.tables.specs.Slots.{enabled_in, chosen, counted};
 use columns::Columns;
 use measures::is_enabled;
 use model::Level;
+use model::places::held;
 
 // The slots that each job has had in either table.
 #[derive(Clone, Copy)]
@@ -47,14 +48,11 @@ impl Had {
 }
 
 // What a list holds for job j, 0 where it has no place for it.
-#[tactic(auto, unfolding(model::specs::Lists::at))]
+#[tactic(auto, using(laws::proofs::Places::at_held))]
 fn entry(list: &[u16], j: u16) -> u16
     ensures { result ≡ at list.now j 0 }
 {
-    let Some(i) = usize::from(j).checked_sub(1) else {
-        return 0;
-    };
-    list.get(i).copied().unwrap_or(0)
+    held(list, j).unwrap_or(0)
 }
 
 // Counts one slot more for job j. A number that names no place changes nothing.
@@ -84,6 +82,7 @@ pub fn hi_table(k: &Columns, span: usize, lo: &[u16], table: &mut [u16])
     };
     for (t, slot) in lo[..span].iter().enumerate() {
         let j = had.pick(k, *slot);
+        // by index: tried `table.iter_mut().zip(&lo[..span])`, and the two in the other order; past a `zip` of `iter_mut` a proof has no name for the table
         table[t] = j;
         count(&mut had.lo, *slot);
         count(&mut had.hi, j);

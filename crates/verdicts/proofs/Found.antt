@@ -93,17 +93,20 @@ module _ (s : Set) (h : is_good (refusal (view s)) ≡ true) (x : ℕ) (w : List
           ∙ ap (λ c. Unfit (miss_in y (suc job) c)) end
           ∙ ap (λ j. Unfit (miss_in y j (get_or r.finishes job 0))) (sym (add-one job))
 
-      pub turn-miss : (u : Verdict) (c : List ℕ) → u ≡ Unfit (record { scenario = y; job = job + 1; finish = get_or r.finishes job 0 }) → Left s u c
-      turn-miss u c z = (
-        record {
-          is = z ∙ sym first;
-          scenario =
-              λ n e.
-              let g : miss_in y (job + 1) (get_or r.finishes job 0) ≡ n = same_miss (sym z ∙ e) in
-              subst (λ (i : Miss). IsScenario (view s) i.scenario) g (is_scenario s x q y p);
-        },
-        λ e. let g : Unfit (miss_in y (job + 1) (get_or r.finishes job 0)) ≡ Fit = sym z ∙ e in absurd (cc),
-      )
+      pub turn-miss : (u : Verdict) (c : List ℕ) (i e : ℕ) → i ≡ job → e ≡ get_or r.finishes job 0
+          → u ≡ Unfit (record { scenario = y; job = i + 1; finish = e }) → Left s u c
+      turn-miss u c i e is at said =
+          let z : u ≡ Unfit (miss_in y (job + 1) (get_or r.finishes job 0)) =
+          said ∙ ap (λ k. Unfit (miss_in y (k + 1) e)) is ∙ ap (λ k. Unfit (miss_in y (job + 1) k)) at in (
+            record {
+              is = z ∙ sym first;
+              scenario =
+                  λ n o.
+                  let g : miss_in y (job + 1) (get_or r.finishes job 0) ≡ n = same_miss (sym z ∙ o) in
+                  subst (λ (i : Miss). IsScenario (view s) i.scenario) g (is_scenario s x q y p);
+            },
+            λ o. let g : Unfit (miss_in y (job + 1) (get_or r.finishes job 0)) ≡ Fit = sym z ∙ o in absurd (cc),
+          )
 
 -- what stands beside a verdict
 module _ (v : View) (x : Verdict) where

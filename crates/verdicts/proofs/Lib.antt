@@ -5,5 +5,6 @@ pub mod Search
 pub mod Scenarios
 pub mod RowLaws
 pub mod Carried
+pub mod Pairs
 pub mod Found
 pub mod AnswerLaws

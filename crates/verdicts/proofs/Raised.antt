@@ -1,19 +1,19 @@
 -- The running times of scenario x, from the finishes of scenario 0: of two HI jobs, one is done at the other's turn exactly if it does not
 -- end after it.
 --   end-turn                 == what scenario 0 marks of a HI job is its turn
---   raises, stays            == the time of a job in a HI scenario, by its level and the finishes;  raised_test: when it is raised
+--   own_in                   == the job that a HI scenario is of, as the code holds its number
+--   time_is                  == the time of a job in a HI scenario, by its level and the finishes;  raised_test: when it is raised
 --   times-lo, times-hi       == the times of a scenario, from those of each job
 -- Assumes nothing.
 use Prim.Native.Nat.{ℕ, suc, ◌+◌, ◌-◌, ◌≤◌, ◌<◌, min}
-use mathlib.Core.Path.{◌≡◌, refl, sym, ◌∙◌, ap}
+use mathlib.Core.Path.{◌≡◌, refl, sym, ◌∙◌, ap, subst}
 use mathlib.Core.Bool.{Bool, true, false, cond, not, ◌&&◌, ◌||◌}
 use mathlib.Core.List.{List}
-use mathlib.Core.Logic.{◌⊎◌, inl, inr}
 use native.Mathlib.Omega.{arith}
 use native.Mathlib.Numerals.{add-one}
 use lib.Dec.{eqb, leb, ltb}
 use lib.ListN.{get_or}
-use borrow.Author.Tests.{eq-eqb, ne_eqb, lt-ltb, le-ltb}
+use borrow.Author.Tests.{lt-ltb, le-ltb}
 use Rattle.model.specs.declared.Scenario.{Scenario}
 use Rattle.model.specs.declared.Scenario.TheVariants.{Lo, Hi}
 use Rattle.model.specs.Lists.{at}
@@ -21,7 +21,7 @@ use Rattle.model.specs.Sets.{View, view, critical}
 use Rattle.model.specs.Runs.{time, done_at, mark, outcome_in}
 use Rattle.model.specs.Scenarios.{places, lo_times, turn, hi_time, times_of, finish_in, row}
 use Rattle.model.specs.Refusals.{is_good, refusal}
-use Rattle.laws.proofs.Bools.{tests, split, or_r}
+use Rattle.laws.proofs.Bools.{tests, split}
 use Rattle.laws.proofs.Places.{at_in}
 use Rattle.laws.proofs.Sound.{Sound}
 use Rattle.laws.proofs.Turns.{place-time, done-turn, hi-mark}
@@ -63,23 +63,10 @@ module _ (s : Set) (g : is_good (refusal (view s)) ≡ true) (ends : List ℕ) (
         rw (c, kj, end-j, end-x, add-one, done-turn v (sound s g) x j own.0 own.1 (part_is s i q) kj, not_leb) refl)
         (λ c. let kj : critical v.policy j ≡ false = sym level ∙ c in rw (c, kj) refl)
 
-    time_is : (r : Bool) → (b && (eqb (i + 1) x || ltb (get_or ends (x - 1) 0) (get_or ends i 0))) ≡ r
+    pub time_is : (r : Bool) → (b && (eqb (i + 1) x || ltb (get_or ends (x - 1) 0) (get_or ends i 0))) ≡ r
         → cond r hi lo ≡ time_in (view s) x (i + 1)
     unfolding time_in hi_time
     time_is r d = rw add-one (rw (sym d ∙ raised_test, his, los) refl)
-
-    pub raises : b ≡ true → (i + 1 ≡ x) ⊎ (get_or ends (x - 1) 0 < get_or ends i 0)
-        → hi ≡ time_in (view s) x (i + 1)
-    raises c (inl o) = time_is true (rw (c, eq-eqb (i + 1) x o) refl)
-    raises c (inr o) = time_is true (rw c (or_r (eqb (i + 1) x) (lt-ltb (get_or ends (x - 1) 0) (get_or ends i 0) o)))
-
-    pub stays : (b ≡ false) ⊎ ((i + 1 ≡ x → ⊥) × (get_or ends i 0 ≤ get_or ends (x - 1) 0))
-        → lo ≡ time_in (view s) x (i + 1)
-    stays (inl c) = time_is false (rw c refl)
-    stays (inr (n, o)) =
-        split b
-        (λ c. time_is false (rw (c, ne_eqb (i + 1) x n, le-ltb (get_or ends (x - 1) 0) (get_or ends i 0) o) refl))
-        (λ c. time_is false (rw c refl))
 
 -- a loop that has filled the times of each job has filled those of the scenario
 module _ (s : Set) (times : List ℕ) (i : ℕ) (z : i ≡ min s.count 64) where
@@ -94,3 +81,6 @@ module _ (s : Set) (times : List ℕ) (i : ℕ) (z : i ≡ min s.count 64) where
 pub times_lo : (v : View) (y : Scenario) (times : List ℕ) → y ≡ Lo → times ≡ lo_times v → times ≡ times_of v y
 unfolding times_of
 times_lo v y times e f = f ∙ sym (rw e refl)
+
+pub own_in : (s : Set) (y : Scenario) (o x : ℕ) → IsScenario (view s) y → y ≡ Hi o → x ≡ o → IsScenario (view s) (Hi x)
+own_in s y o x i e f = subst (IsScenario (view s)) (e ∙ ap Hi (sym f)) i

@@ -38,6 +38,8 @@ pub fn judge(s: Set) -> Judged
     assess(s).judged
 }
 
+// `finish_rows`, `worst_finishes` and `margins` share no function: tried, `map_or` with a method; its closure's inferred clause doesn't give the result.
+
 // The finishes of all scenarios: row 0 is LO, and row j that of HI job j.
 pub fn finish_rows(s: Set) -> [[u16; 64]; 65]
     ensures { result ≡ finish_rows (view s) }

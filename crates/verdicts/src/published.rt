@@ -1,5 +1,7 @@
 // A set under the published test: one that passes the checks, with the finishes of scenario 0, from which the running times of every other scenario
 // follow.
+// An array is filled by the places of the jobs: past `iter_mut().zip(..)` a proof knows nothing of the values. Tried for `lo_times`: `array::from_fn`;
+// the proof didn't close, since no search found the result in the clause inferred of the closure.
 ghost use Rattle.std.specs.Prelude.{◌≡◌, ◌≤◌, true};
 ghost use Rattle.model.specs.declared.Scenario.TheVariants.{Lo as LoOf};
 ghost use Rattle.model.specs.Sets.{view};
@@ -48,7 +50,8 @@ impl Test {
         Ok(Test { set, ends })
     }
 
-    // The scenario numbered x: 0 is LO, and j is HI of job j, which is one of the set's where j is a HI job.
+    // The scenario numbered x: 0 is LO, and j is HI of job j, which is one of the set's where j is a HI job. (`as`: x is at most 64, so there is no
+    // error to handle.)
     pub fn scenario(&self, x: usize) -> Option<Scenario>
         requires { x ≤ self.now.set.count }
         ensures { result ≡ scenario_at (view self.now.set) x }
@@ -62,21 +65,7 @@ impl Test {
         }
     }
 
-    // The running time of job i + 1 in scenario HI of job `own`: a HI job that is that job, or ends after it in scenario 0, has its HI budget.
-    fn time(&self, own: usize, i: usize) -> u16
-        requires of_the_set { IsScenario (view self.now.set) (HiOf own) }
-        requires in_the_set { i < self.now.set.count }
-        ensures { result ≡ time_in (view self.now.set) own (i + 1) }
-    {
-        let job = &members(&self.set)[i];
-        if job.level == Level::Hi && (i + 1 == own || self.ends[own - 1] < self.ends[i]) {
-            job.hi
-        } else {
-            job.lo
-        }
-    }
-
-    // The running times of a scenario of the set.
+    // The running times of a scenario of the set: in HI of job `own` a HI job that is that job, or ends after it in scenario 0, has its HI budget.
     pub fn times(&self, scenario: Scenario) -> [u16; 64]
         requires { IsScenario (view self.now.set) scenario }
         ensures { result ≡ times_of (view self.now.set) scenario }
@@ -85,9 +74,11 @@ impl Test {
             return lo_times(&self.set);
         };
         let own = usize::from(own);
+        let turn = self.ends[own - 1];
         let mut times = [0u16; 64];
-        for i in 0..self.set.count {
-            times[i] = self.time(own, i);
+        for (i, (job, &end)) in members(&self.set).iter().zip(&self.ends).enumerate() {
+            let raised = job.level == Level::Hi && (i + 1 == own || turn < end);
+            times[i] = if raised { job.hi } else { job.lo };
         }
         times
     }

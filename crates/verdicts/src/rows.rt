@@ -1,4 +1,7 @@
 // Finish rows, worst finishes and margins of a set under test.
+// The scenarios are gone through by number, here and in the search, as a row's place and the invariants have them. Tried for `worsts`: `filter_map` in
+// the `for`; its items are scenarios without numbers, and the goals of the loop, which go by number, stayed open.
+// An array is filled by the places of the jobs, as published.rt says.
 ghost use Rattle.std.specs.Prelude.{◌≡◌};
 ghost use Rattle.model.specs.Sets.{view};
 ghost use Rattle.model.specs.Scenarios.{places, rows as rows_in, worst};
@@ -28,8 +31,8 @@ impl Test {
     pub fn raise(&self, worsts: &mut [u16; 64], finishes: &[u16; 64])
         ensures { worsts.new ≡ raised_in (view self.now.set) worsts.old finishes.now }
     {
-        for (i, job) in members(&self.set).iter().enumerate() {
-            worsts[i] = worse(job.level == Level::Hi, worsts[i], finishes[i]);
+        for (i, (job, &finish)) in members(&self.set).iter().zip(finishes).enumerate() {
+            worsts[i] = worse(job.level == Level::Hi, worsts[i], finish);
         }
     }
 
@@ -52,8 +55,8 @@ impl Test {
     {
         let worsts = self.worsts();
         let mut margins = [0i32; 64];
-        for (i, job) in members(&self.set).iter().enumerate() {
-            margins[i] = margin_of(job.deadline, worsts[i]);
+        for (i, (job, &worst)) in members(&self.set).iter().zip(&worsts).enumerate() {
+            margins[i] = margin_of(job.deadline, worst);
         }
         margins
     }

@@ -12,7 +12,7 @@ use rules::jobs::members;
 
 impl Test {
     // The verdict, with the times and the worst finishes beside it. A miss leaves the loop over the jobs and the loop over the scenarios together; a
-    // scenario without one raises the worst finishes, which begin as those of scenario 0.
+    // scenario without one raises the worst finishes, which begin as those of scenario 0. (`as`: the job is one of 64 at most.)
     pub fn search(&self) -> Assessed
         ensures { result ≡ found (view self.now.set) }
     {
@@ -21,8 +21,11 @@ impl Test {
             for x in 0..=self.set.count {
                 if let Some(scenario) = self.scenario(x) {
                     let ran = self.run(scenario);
-                    for (i, job) in members(&self.set).iter().enumerate() {
-                        let finish = ran.finishes[i];
+                    for (i, (job, &finish)) in members(&self.set)
+                        .iter()
+                        .zip(&ran.finishes)
+                        .enumerate()
+                    {
                         if misses(job.level == Level::Hi, job.deadline, finish, ran.switch) {
                             break 'search Verdict::Unfit(Miss {
                                 scenario,

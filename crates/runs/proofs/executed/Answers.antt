@@ -1,7 +1,7 @@
 -- `executed` meets its contract: refused as the checks say, refused where a time lies outside its range, or what the run ends with.
 use Rattle.std.proofs.Common.{rules}
-use mathlib.Core.Path.{◌∙◌, ap}
-use Rattle.model.specs.Refusals.{told}
+use mathlib.Core.Path.{refl, ◌∙◌, ap}
+use Rattle.model.specs.Refusals.{good}
 use Rattle.laws.proofs.Exits.{exit}
 use Rattle.checks.proofs.Checked.{passes}
 use Rattle.columns.specs.Columns.{Prepared}
@@ -34,7 +34,7 @@ pub span_in-requires : goal.span_in-requires
 span_in-requires c = passes _ c.in_ok-check.ensures
 
 pub returns : goal.returns
-unfolding answer_of told
+unfolding answer_of good
 returns c =
     let k : Prepared c.args.s.now c.columns_of-k.result = ready _ _ c.in_ok-check.ensures c.columns_of-k.ensures (search rules) (search rules) in
-    ran-found _ _ k _ c.in_ok-in_range.ensures _ _ c.from.ensures (c.to_span-switch.ensures.run ∙ ap (progress_at _ _ _) c.span_in.ensures)
+    ran-found _ _ k _ c.in_ok-in_range.ensures _ _ refl (c.to_span-switch.ensures.run ∙ ap (progress_at _ _ _) c.span_in.ensures)

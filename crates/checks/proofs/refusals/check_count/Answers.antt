@@ -4,8 +4,7 @@ use lib.Dec.{ltb}
 use Rattle.std.specs.Bool.{then_some}
 use Rattle.model.specs.Sets.{view, count_of}
 use Rattle.model.specs.Scenarios.{hi_jobs}
-use Rattle.model.specs.Refusals.{check_count}
-use Rattle.checks.specs.Places.{refused}
+use Rattle.model.specs.Refusals.{check_count, refused}
 use Rattle.checks.proofs.Firsts.{refused_where}
 use Rattle.checks.proofs.refusals.check_count.Goals as goal
 

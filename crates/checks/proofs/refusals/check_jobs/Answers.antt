@@ -5,9 +5,8 @@ use native.Mathlib.Omega.{arith}
 use lib.Dec.{ltb}
 use Rattle.std.specs.Bool.{then_some}
 use Rattle.model.specs.Sets.{span, view}
-use Rattle.model.specs.Refusals.{checked, check_time, check_budget, check_span}
+use Rattle.model.specs.Refusals.{checked, check_time, check_budget, check_span, refused}
 use Rattle.rules.specs.Rules.{untimely, unbudgeted}
-use Rattle.checks.specs.Places.{refused}
 use Rattle.laws.proofs.Exits.{exit}
 use Rattle.checks.proofs.Firsts.{alone, taken, passed, refused_where, time_is, budget_is}
 use Rattle.checks.proofs.refusals.check_jobs.Goals as goal
