@@ -9,7 +9,7 @@ ghost use Rattle.rules.specs.Rules.{nonzero};
 use model::{Job, Set};
 use rules::jobs::{is_hi, members};
 
-// The number of HI jobs.
+// The number of HI jobs. (`plan_text` counts those of a text that is being read: it stands on no checks, and each is one chain.)
 pub fn hi_jobs(s: &Set) -> usize
     ensures { result ≡ length (hi_jobs (view s.now)) }
 {

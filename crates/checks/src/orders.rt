@@ -13,7 +13,7 @@ fn may_stand(l: Level, m: Level) -> bool
     !is_hi(m) || is_hi(l)
 }
 
-// Marks of who may stand in the order of mode m; number j has place j - 1.
+// Marks of who may stand in the order of mode m; number j has place j - 1. (Tried: `zip` over `iter_mut`; it leaves no index that the invariant can cite.)
 pub fn allowed(s: &Set, m: Level) -> [bool; 64]
     requires { s.now.count ≤ 64 }
     ensures { (j : ℕ) → marked result j ≡ may_stand (view s.now) m j }

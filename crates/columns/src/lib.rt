@@ -6,8 +6,10 @@ ghost use Rattle.columns.specs.Columns.{view_of, columns_of};
 
 use model::{Level, Set};
 use rules::jobs::members;
+use rules::orders::places;
 
-// Arrays side by side, and no array of jobs: `picks::pick` promises its answer by the list of the arrivals, which `arrivals` is.
+// Arrays side by side, and no array of jobs: `picks::pick` promises its answer by the list of the arrivals, which `arrivals` is, and `columns_of`, which is
+// public, promises each of the others.
 #[derive(Clone, Copy)]
 pub struct Columns {
     pub n: usize,
@@ -28,8 +30,8 @@ impl Columns {
         ensures { result.now ≡ (view_of self.now).policy.order mode }
     {
         match mode {
-            Level::Lo => &self.lo_order[..self.n.min(64)],
-            Level::Hi => &self.hi_order[..self.m.min(64)],
+            Level::Lo => &self.lo_order[..places(self.n)],
+            Level::Hi => &self.hi_order[..places(self.m)],
         }
     }
 }

@@ -1,5 +1,6 @@
 // The tests of one job that runs, scenarios and tables go by: its running time against its range, its slots against its budgets, its finish against
-// its deadline and against other finishes. Each takes the numbers that its caller reads from its columns: a struct of them would be built for one call.
+// its deadline and against other finishes. Each takes numbers, as its promise is stated: the runs have them in
+// columns, the published test in jobs, and a struct of them would be built for one call.
 #![tactic(auto)]
 
 ghost use Rattle.std.specs.Prelude.{◌≡◌, cond, not, ◌&&◌, max, eqb, leb, pos, ◌-ℤ◌};

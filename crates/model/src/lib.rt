@@ -166,7 +166,8 @@ pub enum Verdict {
     Unfit(Miss),
 }
 
-// A judgement, which is the verdict found or the refusal, and beside it (document 01 names the form, here and below) the running times of the failing scenario, all 0 where there is none.
+// A judgement, which is the verdict found or the refusal, and beside it the running times of the failing scenario, all 0 where there is none. (Document 01
+// names the form, here and below.)
 #[derive(Clone, Copy)]
 pub struct Judged {
     pub judgement: Result<Verdict, Refusal>,

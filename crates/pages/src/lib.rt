@@ -11,7 +11,7 @@ pub mod lines;
 
 use itoa::Buffer;
 
-// The first `length` bytes are to be printed; the others are 0. It is an array and a length: `page` says each of its bytes, and a writer cannot fail.
+// The first `length` bytes are to be printed; the others are 0. It is an array and a length, since `page` and `put` are stated of both.
 #[derive(Clone, Copy)]
 pub struct Page {
     pub bytes: [u8; 1024],

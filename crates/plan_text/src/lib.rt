@@ -12,7 +12,7 @@ use model::{Job, Reading, Refusal, Set};
 use reader::Reader;
 use readings::{level_number, no_job, refused};
 
-// How many of the jobs are HI jobs.
+// How many of the jobs are HI jobs. (`checks` counts those of a set: this crate stands on no checks, and each is one chain.)
 #[tactic(auto, using(crate::proofs::Jobs::ones_sum))]
 fn hi_jobs(jobs: &[Job]) -> usize
     ensures { result ≡ ones jobs.now }

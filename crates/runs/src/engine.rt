@@ -21,7 +21,7 @@ pub struct Progress {
 }
 
 impl Progress {
-    // Before slot 0: jobs 1 to n are done where they have nothing to do, and no other number names a job.
+    // Before slot 0: jobs 1 to n are done where they have nothing to do, and no other number names a job. (Filled by index as in `checks::allowed`.)
     fn start(n: usize, times: &[u16; 64]) -> Progress
         ensures { result ≡ start_of n times.now }
     {

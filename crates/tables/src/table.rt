@@ -34,8 +34,8 @@ impl Had {
         )
     }
 
-    // The HI table's entry, where the LO table runs job `slot`: the first enabled job of the HI order, 0 for idle. An entry of the order that names no
-    // job is passed over.
+    // The HI table's entry, where the LO table runs job `slot`: the first enabled job of the HI order, or 0, which is a table's word for idle. An entry of the
+    // order that names no job is passed over.
     fn pick(&self, k: &Columns, slot: u16) -> u16
         ensures { result ≡ chosen ((view_of k.now).policy.order Hi) self.now.hi self.now.lo k.now.lo k.now.hi slot }
     {
@@ -47,7 +47,7 @@ impl Had {
     }
 }
 
-// What a list holds for job j, 0 where it has no place for it.
+// What a list holds for job j, 0 where it has no place for it, as `at` says.
 #[tactic(auto, using(laws::proofs::Places::at_held))]
 fn entry(list: &[u16], j: u16) -> u16
     ensures { result ≡ at list.now j 0 }

@@ -3,7 +3,7 @@
 --   end-turn                 == what scenario 0 marks of a HI job is its turn
 --   own_in                   == the job that a HI scenario is of, as the code holds its number
 --   time_is                  == the time of a job in a HI scenario, by its level and the finishes;  raised_test: when it is raised
---   times-lo, times-hi       == the times of a scenario, from those of each job
+--   times-hi                 == the times of a HI scenario, from those of each job
 -- Assumes nothing.
 use Prim.Native.Nat.{ℕ, suc, ◌+◌, ◌-◌, ◌≤◌, ◌<◌, min}
 use mathlib.Core.Path.{◌≡◌, refl, sym, ◌∙◌, ap, subst}
@@ -70,10 +70,6 @@ module _ (s : Set) (g : is_good (refusal (view s)) ≡ true) (ends : List ℕ) (
 
 -- a loop that has filled the times of each job has filled those of the scenario
 module _ (s : Set) (times : List ℕ) (i : ℕ) (z : i ≡ min s.count 64) where
-  pub times-lo : times ≡ up_to i (view s).policy.lo 0 → times ≡ lo_times (view s)
-  unfolding lo_times places view
-  times-lo e = e ∙ up_to-end i s.count (view s).policy.lo 0 z ∙ up_to-places s.count (view s).policy.lo 0
-
   pub times-hi : (x : ℕ) → times ≡ up_to i (time_in (view s) x) 0 → times ≡ times_of (view s) (Hi x)
   unfolding times_of time_in places view
   times-hi x e = e ∙ up_to-end i s.count (time_in (view s) x) 0 z ∙ up_to-places s.count (time_in (view s) x) 0

@@ -1,7 +1,7 @@
 // A set under the published test: one that passes the checks, with the finishes of scenario 0, from which the running times of every other scenario
 // follow.
-// An array is filled by the places of the jobs: past `iter_mut().zip(..)` a proof knows nothing of the values. Tried for `lo_times`: `array::from_fn`;
-// the proof didn't close, since no search found the result in the clause inferred of the closure.
+// The times are filled by the places of the jobs: past `iter_mut().zip(..)` a proof knows nothing of the values. Tried: `array::from_fn`; the proof
+// didn't close, since no search found the result in the clause inferred of the closure.
 ghost use Rattle.std.specs.Prelude.{◌≡◌, ◌≤◌, true};
 ghost use Rattle.model.specs.declared.Scenario.TheVariants.{Lo as LoOf};
 ghost use Rattle.model.specs.Sets.{view};
@@ -9,6 +9,7 @@ ghost use Rattle.model.specs.Scenarios.{row, lo_times};
 ghost use Rattle.model.specs.Refusals.{is_good, refusal};
 
 use checks::check;
+use columns::columns_of;
 use model::{Level, Ran, Refusal, Scenario, Set};
 use rules::jobs::members;
 use runs::execute;
@@ -17,11 +18,7 @@ use runs::execute;
 fn lo_times(set: &Set) -> [u16; 64]
     ensures { result ≡ lo_times (view set.now) }
 {
-    let mut times = [0u16; 64];
-    for (i, job) in members(set).iter().enumerate() {
-        times[i] = job.lo;
-    }
-    times
+    columns_of(*set).lo
 }
 
 // `few` follows from `good`, and stands beside it for the sake of each index.

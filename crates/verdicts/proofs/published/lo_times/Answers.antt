@@ -1,17 +1,9 @@
-use mathlib.Core.Path.{sym}
-use native.Mathlib.Omega.{arith}
-use Rattle.laws.proofs.Fill.{up_to_zero, up_to-more}
-use Rattle.model.specs.Sets.{blank, job}
-use Rattle.verdicts.proofs.Entries.{lo_is}
-use Rattle.verdicts.proofs.Raised.{times-lo}
+-- `lo_times` meets its contract: the column of the LO budgets is what scenario 0 gives.
+use mathlib.Core.Path.{ap}
+use Rattle.model.specs.Scenarios.{lo_times}
+use Rattle.columns.specs.Columns.{columns_of}
 use Rattle.verdicts.proofs.published.lo_times.Goals as goal
 
-pub loop-i-init : goal.loop-i-init
-loop-i-init c = sym (up_to_zero _ 0)
-
-pub loop-i-preserved : goal.loop-i-preserved
-unfolding blank job
-loop-i-preserved c = up_to-more _ _ _ _ 0 c.loop-i.invariant (omega arith) (lo_is _ _ c.members-job-items.ensures.jobs _ (omega arith))
-
 pub returns : goal.returns
-returns c = times-lo _ _ _ (omega arith) c.loop-i.invariant
+unfolding lo_times columns_of
+returns c = ap (λ k. k.lo) c.columns_of.ensures
