@@ -1,6 +1,6 @@
 -- The few words on lists and numbers that the other files use.
---   held l j      == what a list with a place for each job holds for job j; nothing where j names no place
---   at l j d      == what it holds for job j, or d
+--   at l j d      == what a list with a place for each job holds for job j; d where j names no place
+--   held l j      == what it holds for job j, if j names a place (a word of the code: no definition stands on it)
 --   from k n      == the n numbers k, k + 1, ..
 --   numbers n     == 1 to n
 --   only test l   == the entries of l that pass, in their order

@@ -24,7 +24,8 @@ good = record { number = 0; place = 0 }
 unfoldable pub is_good : Refusal → Bool
 is_good r = eqb r.number 0
 
--- "1 TEXT, 2 COUNT, .."
+-- Words of the code, by which its functions promise; no definition of the document stands on these four.
+-- "1 TEXT, 2 COUNT, ..", by the names that the code has for the checks.
 abbrev pub number_of : Check → ℕ
 number_of Text = 1
 number_of Count = 2
