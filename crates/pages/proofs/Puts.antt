@@ -1,18 +1,18 @@
 -- Laws on pages.
 --   put-append     == two texts are put one after the other
 --   put-page       == what is put on a page stands behind what it holds
---   put-each       == a text is put byte by byte
+--   put-turn       == one turn of a loop over the bytes of a text;  put-end: its end
 --   page-length    == a page's length is within its room
 --   page-whole     == a page holds the whole of a text that has room on it
 -- Assumes nothing.
-use Rattle.std.specs.Prelude.{fold}
 use Prim.Native.Nat.{ℕ, suc, ◌+◌, ◌-◌, ◌≤◌, ◌<◌, min}
 use mathlib.Core.Path.{◌≡◌, refl, sym, ◌∙◌, ap, subst}
 use mathlib.Core.List.{List, [], ◌∷◌, ◌++◌, append_assoc, append-nil}
 use native.Mathlib.Omega.{arith}
+use native.Mathlib.Numerals.{add-one}
 use lib.Dec.{ltb}
-use lib.ListN.{length, take, set, replicate, length-append, length-take}
-use lib.Seq.{take_all, take-append_seam, take-append-le, set_at}
+use lib.ListN.{length, take, drop, set, get_or, replicate, length-append, length-take, drop_of_length-le}
+use lib.Seq.{take_all, take-append_seam, take-append-le, set_at, drop-cons}
 use Rattle.laws.proofs.Bools.{tests, split}
 use Rattle.pages.specs.declared.Page.{Page}
 use Rattle.pages.specs.Pages.{size, page, more, put}
@@ -58,11 +58,17 @@ unfolding put
 put-page a [] = ap page (sym (append-nil a))
 put-page a (x ∷ b) = rw (page-more a x) (put-page (a ++ (x ∷ [])) b ∙ ap page (append_assoc a (x ∷ []) b))
 
--- one byte after the other
-pub put-each : (p : Page) (t : List ℕ) → fold (λ q b. put q (b ∷ [])) p t ≡ put p t
+-- a loop over the bytes of a text: r is q with the byte at place i
+pub put-turn : (p q r : Page) (t : List ℕ) (i : ℕ) → put q (drop i t) ≡ put p t → i < length t → r ≡ more q (get_or t i 0) → put r (drop (i + 1) t) ≡ put p t
 unfolding put
-put-each p [] = refl
-put-each p (b ∷ t) = put-each (more p b) t
+put-turn p q r t i h n e =
+    let d : get_or t i 0 ∷ drop (i + 1) t ≡ drop i t = rw (add-one i) (sym (drop-cons t i 0 n)) in
+    let s : put q (get_or t i 0 ∷ drop (i + 1) t) ≡ put q (drop i t) = ap (put q) d in
+    ap (λ x. put x (drop (i + 1) t)) e ∙ s ∙ h
+
+pub put-end : (p q : Page) (t : List ℕ) (i : ℕ) → put q (drop i t) ≡ put p t → length t ≤ i → q ≡ put p t
+unfolding put
+put-end p q t i h n = rw (drop_of_length-le t {i = i} n) at h
 
 pub page-length : (p : Page) (l : List ℕ) → p ≡ page l → p.length ≤ length p.bytes
 unfolding page

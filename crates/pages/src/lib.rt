@@ -5,7 +5,7 @@
 ghost use Rattle.std.specs.Prelude.{◌≡◌, [], ◌∷◌, pos, ◌-ℤ◌, take};
 ghost use Rattle.model.specs.Texts.{decimal};
 ghost use Rattle.model.specs.Printed.{signed};
-ghost use Rattle.pages.specs.Pages.{page, put};
+ghost use Rattle.pages.specs.Pages.{page, more, put};
 
 pub mod lines;
 
@@ -29,22 +29,33 @@ impl Page {
         }
     }
 
-    // One byte more.
-    pub fn with_byte(mut self, byte: u8) -> Page
-        ensures { result ≡ put self (byte ∷ []) }
+    // One byte more, where the page lies: a page is too large to be copied for each byte of a text.
+    fn add(&mut self, byte: u8)
+        ensures { self.new ≡ more self.old byte }
     {
         if self.length < self.bytes.len() {
             self.bytes[self.length] = byte;
             self.length += 1;
         }
+    }
+
+    // One byte more.
+    #[tactic(auto, unfolding(crate::specs::Pages::put))]
+    pub fn with_byte(mut self, byte: u8) -> Page
+        ensures { result ≡ put self (byte ∷ []) }
+    {
+        self.add(byte);
         self
     }
 
     // All bytes of a text.
-    pub fn with_bytes(self, text: &[u8]) -> Page
+    pub fn with_bytes(mut self, text: &[u8]) -> Page
         ensures { result ≡ put self text.now }
     {
-        text.iter().fold(self, |page, &byte| page.with_byte(byte))
+        for &byte in text {
+            self.add(byte);
+        }
+        self
     }
 
     // A number, in decimal.
@@ -66,7 +77,9 @@ impl Page {
         ensures { result ≡ put self (32 ∷ signed (pos deadline -ℤ pos worst)) }
     {
         if deadline < worst {
-            self.with_bytes(b" -").with_decimal(worst - deadline)
+            self.with_byte(b' ')
+                .with_byte(b'-')
+                .with_decimal(worst - deadline)
         } else {
             self.with_field(deadline - worst)
         }

@@ -1,13 +1,13 @@
 -- `with_bytes` meets its contract: one byte after the other.
-use Rattle.std.specs.Prelude.{[], ◌∷◌}
-use Rattle.std.proofs.Common.{rules, ◌∙◌}
-use Rattle.std.proofs.lemmas.Iterator.{YieldsList-from_slice}
-use Rattle.std.proofs.lemmas.Iterator.Consumers.{fold_from_yields_List}
-use Rattle.pages.specs.Pages.{put}
-use Rattle.pages.proofs.Puts.{put-each}
+use mathlib.Core.Path.{refl}
+use Rattle.pages.proofs.Puts.{put-turn, put-end}
 use Rattle.pages.proofs.Page.with_bytes.Goals as goal
 
+pub loop-byte-init : goal.loop-byte-init
+loop-byte-init c = refl
+
+pub loop-byte-preserved : goal.loop-byte-preserved
+loop-byte-preserved c = put-turn _ _ _ _ _ c.loop-byte.invariant c.loop-byte-test.true c.add.ensures
+
 pub returns : goal.returns
-returns c =
-    fold_from_yields_List _ (λ p b. put p (b ∷ [])) _ _ c.fold.ensures.ran (YieldsList-from_slice c.args.text.now cc) (λ a x b q k. search rules)
-    ∙ put-each c.args.self c.args.text.now
+returns c = put-end _ _ _ _ c.loop-byte.invariant c.loop-byte-test.false
