@@ -59,7 +59,8 @@ impl Asked<'_> {
         match kind_of(self.question, wanted) {
             Some(kind) if answer.as_slice() == wanted => Ok(kind),
             _ => {
-                out.write_all(self.case.strip_suffix(rest).unwrap_or(self.case))?;
+                let shown = self.case.len().saturating_sub(rest.len());
+                out.write_all(self.case.get(..shown).unwrap_or(self.case))?;
                 out.write_all(b"The library answers:\n")?;
                 out.write_all(answer)?;
                 Ok(Kind::Difference)

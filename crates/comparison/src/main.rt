@@ -49,7 +49,7 @@ fn read_cases<'a>(rt: &HostRuntime, room: &'a mut [u8; ROOM]) -> io::Result<&'a 
 fn compare<W: Write>(out: &mut W, alloc: Global, text: &[u8]) -> io::Result<()> {
     let mut answer = Vec::new(alloc);
     let mut set = no_set();
-    let mut tally = Tally::new(alloc)?;
+    let mut tally = Tally::new();
     let mut case = text;
     let mut rest = text;
     while let Some((line, behind)) = split_line(rest) {
@@ -64,7 +64,7 @@ fn compare<W: Write>(out: &mut W, alloc: Global, text: &[u8]) -> io::Result<()> 
                 question,
                 behind,
             };
-            tally.add(asked.compare(out, &mut answer, &set)?)?;
+            tally.add(asked.compare(out, &mut answer, &set)?);
         }
         rest = behind;
     }

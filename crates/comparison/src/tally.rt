@@ -1,12 +1,10 @@
 // How many answers there are of each kind: by the verdict, else by the number of the refusal, else by the question.
 use case_text::{nth, numbers_in};
 use questions::Question;
-use std::alloc::{AllocError, Global};
-use std::collections::BTreeMap;
 use std::fmt;
 
 // What an answer is counted as: the kind on which it agrees, or a difference.
-#[derive(Clone, Copy, PartialEq, Eq, PartialOrd, Ord)]
+#[derive(Clone, Copy, PartialEq, Eq)]
 pub enum Kind {
     Fit,
     UnfitInLo,
@@ -48,11 +46,21 @@ impl fmt::Display for Kind {
 // The last number of a refusal; the first is 1.
 const LAST_REFUSAL: u64 = 10;
 
-// The kinds that are no refusals.
-const KINDS: [Kind; 13] = [
+// Every kind, in the order in which they are printed.
+const KINDS: [Kind; 23] = [
     Kind::Fit,
     Kind::UnfitInLo,
     Kind::UnfitInHi,
+    Kind::Refused(1),
+    Kind::Refused(2),
+    Kind::Refused(3),
+    Kind::Refused(4),
+    Kind::Refused(5),
+    Kind::Refused(6),
+    Kind::Refused(7),
+    Kind::Refused(8),
+    Kind::Refused(9),
+    Kind::Refused(LAST_REFUSAL),
     Kind::Rows,
     Kind::Runs,
     Kind::Tables,
@@ -96,37 +104,32 @@ pub fn kind_of(question: &[u8], answer: &[u8]) -> Option<Kind> {
     }
 }
 
-// How many there are of each kind, in the order in which they are printed, which is that of the variants of `Kind`.
-#[derive(Drop)]
+// How many there are of each kind, in the order of `KINDS`. (An array, and no map: nothing that is counted may run out of memory.)
+#[derive(Clone, Copy)]
 pub struct Tally {
-    counts: BTreeMap<Kind, u64>,
+    counts: [u64; 23],
 }
 
 impl Tally {
-    // Nothing counted. Each kind is there, since it is printed with 0 too.
-    pub fn new(alloc: Global) -> Result<Tally, AllocError> {
-        let mut counts = BTreeMap::new(alloc);
-        for kind in KINDS {
-            counts.insert(kind, 0)?;
-        }
-        for number in 1..=LAST_REFUSAL {
-            counts.insert(Kind::Refused(number), 0)?;
-        }
-        Ok(Tally { counts })
+    // Nothing counted.
+    pub fn new() -> Tally {
+        Tally { counts: [0; 23] }
     }
 
     // One more of a kind.
-    pub fn add(&mut self, kind: Kind) -> Result<(), AllocError> {
-        let count = self.counts.entry(kind)?.or_insert(0);
-        *count = count.wrapping_add(1);
-        Ok(())
+    pub fn add(&mut self, kind: Kind) {
+        for (count, counted) in self.counts.iter_mut().zip(KINDS) {
+            if counted == kind {
+                *count = count.wrapping_add(1);
+            }
+        }
     }
 }
 
 // Each count after its name.
 impl fmt::Display for Tally {
     fn fmt<W: fmt::Write>(&self, f: &mut fmt::Formatter<W>) -> fmt::Result {
-        for (kind, count) in &self.counts {
+        for (count, kind) in self.counts.iter().zip(KINDS) {
             writeln!(f, "{kind} {count}")?;
         }
         Ok(())
