@@ -1,11 +1,31 @@
 // The decimal numbers of a line: each is a word behind a space that begins with a digit.
-ghost use Rattle.std.specs.Prelude.{◌≡◌, min, get_or};
+ghost use Rattle.std.specs.Prelude.{◌≡◌, min, get_or, take};
 
-use arrayvec::ArrayVec;
 use std::array;
 
-// The numbers of a line, at most 72.
-pub type Numbers = ArrayVec<u64, 72>;
+// The numbers of a line, as many as `count`, with room for 72. (An array and a count, and no ArrayVec: the numbers are copied where they are passed on.)
+#[derive(Clone, Copy)]
+pub struct Numbers {
+    pub values: [u64; 72],
+    pub count: usize,
+}
+
+impl Numbers {
+    // The numbers that there are.
+    pub fn as_slice(&self) -> &[u64]
+        ensures { result.now ≡ take self.now.count self.now.values }
+    {
+        self.values.get(..self.count).unwrap_or(&self.values)
+    }
+
+    // One more, while there is room.
+    fn add(&mut self, n: u64) {
+        if let Some(place) = self.values.get_mut(self.count) {
+            *place = n;
+            self.count += 1;
+        }
+    }
+}
 
 // The largest number of 18 digits.
 const EIGHTEEN_NINES: u64 = 999_999_999_999_999_999;
@@ -27,10 +47,13 @@ fn number_of(word: &[u8]) -> u64 {
 
 // The decimal numbers of a line in their order. What is beyond 72 finds no room, and is left out.
 pub fn numbers_in(line: &[u8]) -> Numbers {
-    let mut numbers = Numbers::new();
+    let mut numbers = Numbers {
+        values: [0; 72],
+        count: 0,
+    };
     for word in line.split(|b| *b == b' ').skip(1) {
         if matches!(word, [b'0'..=b'9', ..]) {
-            let _ = numbers.try_push(number_of(word));
+            numbers.add(number_of(word));
         }
     }
     numbers

@@ -7,12 +7,12 @@ ghost use Rattle.std.specs.Prelude.{◌≡◌, true, false};
 ghost use Rattle.model.specs.Texts.{no_set};
 ghost use Rattle.case_text.specs.Lines.{begins_set, builds};
 
-use crate::numbers::{Numbers, nth, numbers_in, shorts};
+use crate::numbers::{nth, numbers_in, shorts};
 use model::{Order, Set};
 use readings::{job_of, no_set};
 
 // Adds the jobs of a line to the set, while there is room.
-fn add_jobs(set: &mut Set, numbers: &Numbers) {
+fn add_jobs(set: &mut Set, numbers: &[u64]) {
     let job = job_of(&shorts(numbers));
     for _ in 0..nth(numbers, 5).clamp(1, 64) {
         if let Some(place) = set.jobs.get_mut(set.count) {
@@ -23,7 +23,7 @@ fn add_jobs(set: &mut Set, numbers: &Numbers) {
 }
 
 // The order of a line.
-fn order_of(numbers: &Numbers) -> Order {
+fn order_of(numbers: &[u64]) -> Order {
     Order {
         entries: shorts(numbers),
         count: numbers.len(),
@@ -36,7 +36,7 @@ fn count_of(n: u64) -> usize {
 }
 
 // Gives the set the three counts of a line.
-fn set_counts(set: &mut Set, numbers: &Numbers) {
+fn set_counts(set: &mut Set, numbers: &[u64]) {
     set.count = count_of(nth(numbers, 0));
     set.lo.count = count_of(nth(numbers, 1));
     set.hi.count = count_of(nth(numbers, 2));
@@ -49,10 +49,10 @@ pub fn build(set: &mut Set, line: &[u8])
 {
     match line.first() {
         Some(b's') => *set = no_set(),
-        Some(b'j') => add_jobs(set, &numbers_in(line)),
-        Some(b'l') => set.lo = order_of(&numbers_in(line)),
-        Some(b'h') => set.hi = order_of(&numbers_in(line)),
-        Some(b'c') => set_counts(set, &numbers_in(line)),
+        Some(b'j') => add_jobs(set, numbers_in(line).as_slice()),
+        Some(b'l') => set.lo = order_of(numbers_in(line).as_slice()),
+        Some(b'h') => set.hi = order_of(numbers_in(line).as_slice()),
+        Some(b'c') => set_counts(set, numbers_in(line).as_slice()),
         _ => {}
     }
 }

@@ -18,7 +18,7 @@ pub struct Asked<'a> {
 
 // Writes what is printed for the text of a line, each line feed as `|`.
 fn write_printed<W: Write>(out: &mut W, line: &[u8]) -> io::Result<()> {
-    let mut page = printing::answer(&text_in(line));
+    let mut page = printing::answer(text_in(line).as_slice());
     for b in &mut page.bytes {
         if *b == b'\n' {
             *b = b'|';

@@ -92,7 +92,7 @@ fn kind_of_question(question: &[u8]) -> Option<Kind> {
 // The kind of an answer that is agreed on, if such an answer to the question has one: in each line of an answer the words stand behind two bytes.
 pub fn kind_of(question: &[u8], answer: &[u8]) -> Option<Kind> {
     let line = answer.split(|b| *b == b'\n').next().unwrap_or(&[]);
-    let number = nth(&numbers_in(line), 0);
+    let number = nth(numbers_in(line).as_slice(), 0);
     match answer.get(2) {
         Some(b'F') => Some(Kind::Fit),
         Some(b'U') if number == 0 => Some(Kind::UnfitInLo),

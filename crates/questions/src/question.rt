@@ -12,7 +12,7 @@
 ghost use Rattle.std.specs.Prelude.{◌≡◌, None, Some, false};
 
 use arrayvec::ArrayVec;
-use case_text::{Numbers, nth, numbers_in, short, shorts};
+use case_text::{nth, numbers_in, short, shorts};
 
 // A question, with its numbers.
 #[derive(Drop)]
@@ -34,13 +34,12 @@ impl Question {
     ghost use Rattle.questions.specs.Questions.{asks};
     ghost use Rattle.questions.specs.declared.question.Question.TheVariants.{Checks, Span};
 
-    // The question that a line asks: its first letter says which.
+    // The question that a line asks: its first letter says which. (The numbers are read where the question has any: a line may be long.)
     pub fn parse(line: &[u8]) -> Option<Question>
         ensures none { asks line.now ≡ false → result ≡ None }
         ensures checks { first line.now ≡ 99 → result ≡ Some Checks }
         ensures span { first line.now ≡ 115 → result ≡ Some Span }
     {
-        let numbers = numbers_in(line);
         match line.first()? {
             b'c' => Some(Question::Checks),
             b's' => Some(Question::Span),
@@ -49,27 +48,39 @@ impl Question {
             b'w' => Some(Question::WorstFinishes),
             b'm' => Some(Question::Margins),
             b'r' => Some(Question::Run {
-                times: shorts(&numbers),
+                times: shorts(numbers_in(line).as_slice()),
             }),
-            b't' => Some(Question::Tables {
-                lo_room: nth(&numbers, 0),
-                hi_room: nth(&numbers, 1),
-            }),
-            b'p' => Some(Question::Part {
-                from: nth(&numbers, 0),
-                room: nth(&numbers, 1),
-            }),
-            b'a' => Some(Question::Pick {
-                slot: short(nth(&numbers, 0)),
-                done: done_in(&numbers),
-            }),
+            b't' => Some(Question::tables(numbers_in(line).as_slice())),
+            b'p' => Some(Question::part(numbers_in(line).as_slice())),
+            b'a' => Some(Question::pick(numbers_in(line).as_slice())),
             _ => None,
+        }
+    }
+
+    fn tables(numbers: &[u64]) -> Question {
+        Question::Tables {
+            lo_room: nth(numbers, 0),
+            hi_room: nth(numbers, 1),
+        }
+    }
+
+    fn part(numbers: &[u64]) -> Question {
+        Question::Part {
+            from: nth(numbers, 0),
+            room: nth(numbers, 1),
+        }
+    }
+
+    fn pick(numbers: &[u64]) -> Question {
+        Question::Pick {
+            slot: short(nth(numbers, 0)),
+            done: done_in(numbers),
         }
     }
 }
 
 // Who is done: a flag for each number but the first, which is the slot. Where not even that is given, nobody is.
-fn done_in(numbers: &Numbers) -> ArrayVec<bool, 72> {
+fn done_in(numbers: &[u64]) -> ArrayVec<bool, 72> {
     let Some((_, flags)) = numbers.split_first() else {
         return ArrayVec::from([false; 72]);
     };
