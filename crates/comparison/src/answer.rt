@@ -47,7 +47,8 @@ impl Asked<'_> {
         answer.write_all(b"\n")
     }
 
-    // The kind under which the question is counted. Prints the case if the question, its last one so far, is answered otherwise, and the answer.
+    // The kind under which the question is counted, which is looked for where the answer agrees. Prints the case if the question, its last one so far, is
+    // answered otherwise, and the answer.
     pub fn compare<W: Write>(
         &self,
         out: &mut W,
@@ -56,9 +57,10 @@ impl Asked<'_> {
     ) -> io::Result<Kind> {
         self.write_answer(answer, set)?;
         let (wanted, rest) = split_wanted(self.behind);
-        match kind_of(self.question, wanted) {
-            Some(kind) if answer.as_slice() == wanted => Ok(kind),
-            _ => {
+        let agrees = answer.as_slice() == wanted;
+        match agrees.then(|| kind_of(self.question, wanted)).flatten() {
+            Some(kind) => Ok(kind),
+            None => {
                 let shown = self.case.len().saturating_sub(rest.len());
                 out.write_all(self.case.get(..shown).unwrap_or(self.case))?;
                 out.write_all(b"The library answers:\n")?;
