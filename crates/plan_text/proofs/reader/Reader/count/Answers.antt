@@ -1,5 +1,6 @@
 -- `count` meets its contract: the first of two digits, then the last and the line feed. Assumes nothing.
 use mathlib.Core.Path.{refl}
+use Rattle.std.proofs.Common.{rules}
 use native.Mathlib.Omega.{arith}
 use Rattle.forms.specs.Forms.{count}
 use Rattle.fields.specs.Cursors.{Steps}
@@ -12,9 +13,9 @@ use Rattle.plan_text.proofs.reader.Reader.count.Goals.{After-ending, then-n-lt10
 told : (c : After-ending) → Steps c.args.self.now.text.now c.args.self.now.at (count c.args.n) c.ending.result
 told c =
     elim c.if-n-lt10.branch [
-      | then-n-lt10 w ↦ one_digit _ _ _ _ w.if-n-lt10.true (rw (← w.at-is) c.ending.ensures)
+      | then-n-lt10 w ↦ one_digit _ _ _ _ w.if-n-lt10.true (rw (← w.at-is) (search (rules, c.ending.ensures)))
       | else-n-lt10+in_ok-at w ↦
-          last_digit _ _ _ w.if-n-lt10.false (omega arith) _ w.expect.ensures _ _ w.in_ok-at.was (rw (← w.at-is) c.ending.ensures)
+          last_digit _ _ _ w.if-n-lt10.false (omega arith) _ w.expect.ensures _ _ w.in_ok-at.was (rw (← w.at-is) (search (rules, c.ending.ensures)))
     ]
 
 pub returns-in_err-at : goal.returns-in_err-at
