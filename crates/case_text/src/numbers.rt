@@ -3,7 +3,7 @@ ghost use Rattle.std.specs.Prelude.{◌≡◌, min, get_or, take};
 
 use std::array;
 
-// The numbers of a line, as many as `count`, with room for 72. (An array and a count, and no ArrayVec: the numbers are copied where they are passed on.)
+// The numbers of a line, as many as `count`, with room for 72. (An array and a count, and no ArrayVec: whoever holds them may copy them.)
 #[derive(Clone, Copy)]
 pub struct Numbers {
     pub values: [u64; 72],

@@ -1,8 +1,7 @@
 // The bytes that a line gives in hex.
 ghost use Rattle.std.specs.Prelude.{◌≡◌, ◌≤◌, take};
 
-// The bytes of a text, as many as `length`, with room for 5,000. (An array and a length, and no ArrayVec: a text is copied, and what finds no room is not
-// looked at.)
+// The bytes of a text, as many as `length`, with room for 5,000. (An array and a length, and no ArrayVec: whoever holds it may copy it.)
 #[derive(Clone, Copy)]
 pub struct Text {
     pub bytes: [u8; 5000],

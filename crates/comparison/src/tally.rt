@@ -118,8 +118,8 @@ impl Tally {
 
     // One more of a kind.
     pub fn add(&mut self, kind: Kind) {
-        for (count, counted) in self.counts.iter_mut().zip(KINDS) {
-            if counted == kind {
+        for (count, counted) in self.counts.iter_mut().zip(&KINDS) {
+            if *counted == kind {
                 *count = count.wrapping_add(1);
             }
         }
