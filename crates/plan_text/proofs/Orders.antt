@@ -1,5 +1,5 @@
 -- An order after its count: the count's line, then the line of its entries.
---   count_stuck, line_stuck == the text is stuck in the count; in the line of the entries
+--   count_stuck, line_stuck == the text is stuck in the count, wherever the reader stands then; in the line of the entries
 --   order_read              == the entries are read, into room that holds 0
 -- Assumes nothing.
 use Prim.Native.Nat.{ℕ, zero, suc, ◌+◌}
@@ -25,9 +25,9 @@ module _ (r s : Reader) (n : ℕ) (a : Result (Unit {0}) Stuck) (z : Takes r (λ
   entries_of : (Order → Form) → Unit {0} → Form
   entries_of f u = row (replicate n 65535) [] (λ l. f (order_with l))
 
-  pub count_stuck : (e : Stuck) → a ≡ Err e → Takes {V = Order} r (λ f. order n (λ l. f (order_with l))) s (λ o. o) (Err e)
+  pub count_stuck : (e : Stuck) → a ≡ Err e → (q : Reader) → q.text ≡ r.text → Takes {V = Order} r (λ f. order n (λ l. f (order_with l))) q (λ o. o) (Err e)
   unfolding order entries_of
-  count_stuck e p = stuck_in _ _ _ _ _ z e p entries_of s (λ o. o) z.same
+  count_stuck e p q h = stuck_in _ _ _ _ _ z e p entries_of q (λ o. o) h
 
   module _ (u : Unit {0}) (p : a ≡ Ok u) (m : ℕ) (w : m ≡ n) (q : Reader) (b : Result (Unit {0}) Stuck)
       (look : Unit {0} → List ℕ) (y : Takes s (row (limits None m) []) q look b) where

@@ -89,15 +89,20 @@ impl Reader<'_> {
         Ok(())
     }
 
-    // An order of n entries, after its count.
+    // An order of n entries, after its count. (A match on the count, and no `?`: its first arm is where the wrong edit
+    // `count_not_compared` goes on.)
     pub fn order(&mut self, n: usize) -> Result<Order, Stuck>
         requires { n ≤ 64 }
         ensures { Takes self.old (λ f. order_form n (λ l. f (order_with l))) self.new (λ o. o) result }
     {
-        self.count(n)?;
-        let mut entries = [0; 64];
-        self.line(&mut entries[..n], None)?;
-        Ok(Order { entries, count: n })
+        match self.count(n) {
+            Err(stuck) => Err(stuck),
+            Ok(()) => {
+                let mut entries = [0; 64];
+                self.line(&mut entries[..n], None)?;
+                Ok(Order { entries, count: n })
+            }
+        }
     }
 
     // The end of the text.
