@@ -59,12 +59,13 @@ put-page a [] = ap page (sym (append-nil a))
 put-page a (x ∷ b) = rw (page-more a x) (put-page (a ++ (x ∷ [])) b ∙ ap page (append_assoc a (x ∷ []) b))
 
 -- a loop over the bytes of a text: r is q with the byte at place i
-pub put-turn : (p q r : Page) (t : List ℕ) (i : ℕ) → put q (drop i t) ≡ put p t → i < length t → r ≡ more q (get_or t i 0) → put r (drop (i + 1) t) ≡ put p t
-unfolding put
+pub put-turn : (p q r : Page) (t : List ℕ) (i : ℕ) → put q (drop i t) ≡ put p t → i < length t → r ≡ put q (get_or t i 0 ∷ [])
+    → put r (drop (i + 1) t) ≡ put p t
 put-turn p q r t i h n e =
-    let d : get_or t i 0 ∷ drop (i + 1) t ≡ drop i t = rw (add-one i) (sym (drop-cons t i 0 n)) in
-    let s : put q (get_or t i 0 ∷ drop (i + 1) t) ≡ put q (drop i t) = ap (put q) d in
-    ap (λ x. put x (drop (i + 1) t)) e ∙ s ∙ h
+    ap (λ x. put x (drop (i + 1) t)) e
+    ∙ put-append q (get_or t i 0 ∷ []) (drop (i + 1) t)
+    ∙ ap (put q) (rw (add-one i) (sym (drop-cons t i 0 n)))
+    ∙ h
 
 pub put-end : (p q : Page) (t : List ℕ) (i : ℕ) → put q (drop i t) ≡ put p t → length t ≤ i → q ≡ put p t
 unfolding put

@@ -58,10 +58,13 @@ impl Page {
         self
     }
 
-    // A number, in decimal.
+    // A number, in decimal. (One digit is put by itself, since the kit's text of it takes longer.)
     pub fn with_decimal(self, n: u64) -> Page
         ensures { result ≡ put self (decimal n) }
     {
+        if n < 10 {
+            return self.with_byte(b'0' + n as u8);
+        }
         self.with_bytes(Buffer::new().format(n).as_bytes())
     }
 
