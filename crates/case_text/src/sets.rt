@@ -12,7 +12,7 @@ use model::{Order, Set};
 use readings::{job_of, no_set};
 use std::array;
 
-// Adds the jobs of a line to the set, while there is room. (Five of its numbers are read, where `shorts` reads 64.)
+// Adds the jobs of a line to the set, while there is room. (A job is of five numbers, where `shorts` reads 64.)
 fn add_jobs(set: &mut Set, numbers: &[u64]) {
     let job = job_of(&array::from_fn::<_, 5, _>(|i| short(nth(numbers, i))));
     for _ in 0..nth(numbers, 5).clamp(1, 64) {
