@@ -66,9 +66,14 @@ pub fn nth(numbers: &[u64], i: usize) -> u64
     numbers.get(i).copied().unwrap_or(0)
 }
 
-// The first 64 numbers of a line, as 16 bits hold them; 0 where it has fewer, by the same rule.
-pub fn shorts(numbers: &[u64]) -> [u16; 64] {
+// The first N numbers of a line, as 16 bits hold them; 0 where it has fewer, by the same rule.
+pub fn first_shorts<const N: usize>(numbers: &[u64]) -> [u16; N] {
     array::from_fn(|i| short(nth(numbers, i)))
+}
+
+// The first 64 numbers of a line, as many as an order may have.
+pub fn shorts(numbers: &[u64]) -> [u16; 64] {
+    first_shorts(numbers)
 }
 
 // A number as 16 bits hold it, the largest where they do not.

@@ -7,14 +7,13 @@ ghost use Rattle.std.specs.Prelude.{◌≡◌, true, false};
 ghost use Rattle.model.specs.Texts.{no_set};
 ghost use Rattle.case_text.specs.Lines.{begins_set, builds};
 
-use crate::numbers::{nth, numbers_in, short, shorts};
+use crate::numbers::{first_shorts, nth, numbers_in, shorts};
 use model::{Order, Set};
 use readings::{job_of, no_set};
-use std::array;
 
-// Adds the jobs of a line to the set, while there is room. (A job is of five numbers, where `shorts` reads 64.)
+// Adds the jobs of a line to the set, while there is room. (A job is of five numbers: to read 64 takes twice the time.)
 fn add_jobs(set: &mut Set, numbers: &[u64]) {
-    let job = job_of(&array::from_fn::<_, 5, _>(|i| short(nth(numbers, i))));
+    let job = job_of(&first_shorts::<5>(numbers));
     for _ in 0..nth(numbers, 5).clamp(1, 64) {
         if let Some(place) = set.jobs.get_mut(set.count) {
             *place = job;
